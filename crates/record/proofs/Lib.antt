@@ -1,0 +1,5 @@
+mod Chain
+pub mod Digits
+pub mod Same
+pub mod RoundTrip
+pub mod Facts

@@ -1,0 +1,5 @@
+use Rattle.record.proofs.Facts.{alike-equivalence}
+use Rattle.record.proofs.laws.alike_equivalence.Needs as need
+
+pub returns : need.returns
+returns c = alike-equivalence

@@ -1,0 +1,7 @@
+use borrow.Author.Needs.{needs}
+use Rattle.record.specs.Numbers.{number-at}
+use Rattle.record.proofs.layout.read_u64.Needs as need
+
+pub returns : need.returns
+unfolding number-at
+returns c = search needs
