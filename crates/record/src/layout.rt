@@ -34,14 +34,14 @@ fn read_u64(bytes: &[u8; 80], at: usize) -> u64
 }
 
 // The four bytes that write a number, high byte first.
-fn u32_bytes(n: u32) -> [u8; 4]
+pub fn u32_bytes(n: u32) -> [u8; 4]
     ensures { λ r. ⌜ r ≡ bytes-of-number 4 n ⌝ }
 {
     n.to_be_bytes()
 }
 
 // The eight bytes that write a number, high byte first.
-fn u64_bytes(n: u64) -> [u8; 8]
+pub fn u64_bytes(n: u64) -> [u8; 8]
     ensures { λ r. ⌜ r ≡ bytes-of-number 8 n ⌝ }
 {
     n.to_be_bytes()
