@@ -9,6 +9,7 @@ pub mod hex;
 pub mod meaning;
 pub mod play;
 pub mod program;
+pub mod seals;
 pub mod step;
 pub mod story;
 pub mod usage;

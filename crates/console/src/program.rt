@@ -1,5 +1,7 @@
 // The program: arguments, files and standard streams, and nothing else.
 use crate::play::Player;
+use crate::seals::seal;
+use crate::seals::vouch;
 use crate::story::story;
 use crate::usage::USAGE;
 use std::env;
@@ -23,6 +25,17 @@ fn play<R: Read + Drop>(rt: &LibcRuntime, input: R) -> Result<(), AnyError> {
     Ok(())
 }
 
+// A command over a key and a record.
+fn over_key(rt: &LibcRuntime, command: &str, key: &str, bytes: &str) -> Result<(), AnyError> {
+    let text = match command {
+        "seal" => seal(rt.alloc(), key, bytes)?,
+        "vouch" => vouch(rt.alloc(), key, bytes)?,
+        _ => String::from_str(rt.alloc(), USAGE)?,
+    };
+    rt.print(text)?;
+    Ok(())
+}
+
 // Does what the arguments ask for.
 pub fn run(rt: &LibcRuntime) -> Result<(), AnyError> {
     let mut args = env::args(rt)?;
@@ -31,12 +44,16 @@ pub fn run(rt: &LibcRuntime) -> Result<(), AnyError> {
         rt.print(story(rt.alloc())?)?;
         return Ok(());
     };
-    if command.as_str() != "play" {
-        rt.print(USAGE)?;
-        return Ok(());
-    }
-    match args.next() {
-        None => play(rt, rt.stdin()),
-        Some(path) => play(rt, File::open(rt, path.as_str())?),
+    match (args.next(), args.next()) {
+        (None, _) if command.as_str() == "play" => play(rt, rt.stdin()),
+        (Some(path), None) if command.as_str() == "play" => play(
+            rt,
+            File::open(rt, path.as_str())?,
+        ),
+        (Some(key), Some(bytes)) => over_key(rt, command.as_str(), key.as_str(), bytes.as_str()),
+        _ => {
+            rt.print(USAGE)?;
+            Ok(())
+        }
     }
 }

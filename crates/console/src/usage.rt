@@ -5,6 +5,10 @@ pub const USAGE: &str = "usage: register [COMMAND]
   register             plays a built-in story: the life of one bill
   register play        plays the steps on standard input, one a line
   register play FILE   plays the steps in a file
+  register seal KEY RECORD    prints the record with its seal filled in under the key
+  register vouch KEY RECORD   says whether the record's seal is good under the key
+
+A key is 32 bytes and a record 80, both in hexadecimal.
 
 The steps, where CLIENT is a number from 0 to 15:
 

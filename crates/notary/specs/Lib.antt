@@ -1,0 +1,3 @@
+pub mod Book
+pub mod Keys
+pub mod Laws
