@@ -5,7 +5,9 @@
 // `Bench` says so by its contracts. The wording of a line is tested, not proved.
 pub mod bench;
 pub mod deed;
+pub mod explain;
 pub mod hex;
+pub mod keys;
 pub mod meaning;
 pub mod play;
 pub mod program;

@@ -2,13 +2,16 @@
 
 pub const USAGE: &str = "usage: register [COMMAND]
 
-  register             plays a built-in story: the life of one bill
-  register play        plays the steps on standard input, one a line
-  register play FILE   plays the steps in a file
-  register seal KEY RECORD    prints the record with its seal filled in under the key
-  register vouch KEY RECORD   says whether the record's seal is good under the key
+  register                              plays a built-in story: the life of one bill
+  register play                         plays the steps on standard input, one a line
+  register play FILE                    plays the steps in a file
+  register seal KEY RECORD              prints the record with its seal filled in under the key
+  register vouch KEY RECORD             says whether the record's seal is good under the key
+  register explain F MESSAGE [KEYFILE]  says what a message to a pool of 3F+1 sites is, or why it is refused
+  register explain                      explains each line of standard input: F and a message
 
-A key is 32 bytes and a record 80, both in hexadecimal.
+A key is 32 bytes, a record 80 and a message records end to end, all in hexadecimal. Seals of a message are judged
+where a key file is given: 32 lines of 64 digits, the sites' 16 keys and then the clients' 16.
 
 The steps, where CLIENT is a number from 0 to 15:
 

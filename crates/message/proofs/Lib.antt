@@ -1,0 +1,13 @@
+mod Lowest
+mod Found
+mod Marking
+mod Groups
+mod HeldParts
+mod OneKind
+mod FormsTold
+mod Signers
+mod Read
+mod Verdicts
+mod Tested
+mod ByForm
+mod Outcome

@@ -1,0 +1,52 @@
+"""Prints a script for `register explain`, and with `expect` the first line that explains each message: both made here alone."""
+import sys
+import struct
+def rec(kind,signer,client,number,rnd,place,op=bytes(16),answer=0,nonce=0,spare=0):
+    return bytes([kind,signer,client,spare])+struct.pack('>III',number,rnd,place)+op+struct.pack('>QQ',answer,nonce)+bytes(32)
+op=bytes([2,5,3]+[0]*13); op2=bytes([2,6,3]+[0]*13)
+req=lambda c,n=1:rec(1,c,c,n,0,0,op)
+g=lambda s,c=1,n=1,r=0,p=1,o=op:rec(2,s,c,n,r,p,o)
+st=lambda s,r=0,p=1:rec(6,s,0,0,r,p)
+H=lambda *rs:b''.join(rs).hex()
+rows=[]
+def add(name,f,hexs,first): rows.append((name,f,hexs,first))
+add('one request',1,H(req(1)),'WRITE-1')
+add('one question',1,H(rec(3,1,1,0,0,0,op,0,9)),'READ')
+add('a quorum of grants',1,H(g(0),g(1),g(3)),'WRITE-2')
+add('a quorum of grants at f = 5',5,H(*[g(i) for i in range(5,16)]),'WRITE-2')
+add('a clash',1,H(g(0),g(1,2),g(3),req(1)),'RESOLVE')
+add('a bare round',1,H(st(0,0,0),st(1,0,0),st(2,0,0)),'ROUND')
+add('a full round',1,H(st(0),st(1),st(2,0,0),g(0),g(1),g(2),req(2),req(9)),'ROUND')
+add('the longest round',5,H(*[st(i) for i in range(11)],*[g(i) for i in range(11)],*[req(i) for i in range(16)]),'ROUND')
+add('a show-grant',1,H(rec(7,0,0,0,0,4)),'SHOW-GRANT')
+add('a show-cert',1,H(rec(8,0,0,0,0,0)),'SHOW-CERT')
+add('no record',1,'','refused 2 LENGTH, index 0, layer 1')
+add('one byte short',1,H(req(1))[:-2],'refused 2 LENGTH, index 0, layer 1')
+add('one byte long',1,H(req(1))+'00','refused 2 LENGTH, index 0, layer 1')
+add('39 records',5,H(*[st(i) for i in range(11)],*[g(i) for i in range(11)],*[req(i) for i in range(16)],req(15)),'refused 2 LENGTH, index 0, layer 1')
+add('a quorum less one',1,H(g(0),g(1)),'refused 3 KIND, index 0, layer 1')
+add('a quorum of f = 1 at f = 2',2,H(g(0),g(1),g(3)),'refused 3 KIND, index 0, layer 1')
+add('a lone grant',1,H(g(0)),'refused 3 KIND, index 0, layer 1')
+add('an unknown kind',1,H(rec(9,0,0,0,0,0)),'refused 3 KIND, index 0, layer 1')
+add('a signer above the pool',1,H(g(0),g(4),g(3)),'refused 4 FIELD, index 1, layer 1')
+add('byte 3 set',1,H(rec(1,1,1,1,0,0,op,0,0,1)),'refused 4 FIELD, index 0, layer 1')
+add('another place',1,H(g(0),g(1),g(3,1,1,0,2)),'refused 5 MIXED, index 2, layer 2')
+add('another round',1,H(g(0),g(1,1,1,1),g(3)),'refused 5 MIXED, index 1, layer 2')
+add('a clash in two rounds',1,H(g(0),g(1,2,1,1),g(3),req(1)),'refused 5 MIXED, index 1, layer 2')
+add('starts of two rounds',1,H(st(0),st(1,1),st(2)),'refused 5 MIXED, index 1, layer 2')
+add('grants of another round than the starts',1,H(st(0),st(1),st(2),g(0,1,1,1),g(1,1,1,1),g(2,1,1,1)),'refused 5 MIXED, index 3, layer 2')
+add('no clash',1,H(g(0),g(1),g(3),req(1)),'refused 6 SAME, index 0, layer 2')
+add('a signer again',1,H(g(0),g(1),g(0)),'refused 7 TWICE, index 2, layer 2')
+add('a signer again among the starts',1,H(st(0,0,0),st(0,0,0),st(2,0,0)),'refused 7 TWICE, index 1, layer 2')
+add('a signer again among the grants of a round',1,H(st(0),st(1),st(2),g(0),g(1),g(1)),'refused 7 TWICE, index 5, layer 2')
+add('a start above the target',1,H(st(0),st(1,0,2),st(2),g(0),g(1),g(2)),'refused 9 LOW, index 1, layer 2')
+add('a start above no target',1,H(st(0,0,0),st(1,0,0),st(2)),'refused 9 LOW, index 2, layer 2')
+add('clients that fall',1,H(st(0,0,0),st(1,0,0),st(2,0,0),req(2),req(1)),'refused 10 ORDER, index 4, layer 2')
+add('a client again',1,H(st(0,0,0),st(1,0,0),st(2,0,0),req(2),req(2)),'refused 10 ORDER, index 4, layer 2')
+
+for name, f, message, first in rows:
+    if sys.argv[1:] == ["expect"]:
+        print(first)
+    else:
+        print(f"# {name}: {first}")
+        print(f, message if message else "-")
