@@ -1,0 +1,4 @@
+mod Keeping
+mod Matching
+pub mod Refusing
+pub mod Turning
