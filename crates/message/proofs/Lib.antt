@@ -1,13 +1,14 @@
 mod Lowest
 mod Found
 mod Marking
-mod Groups
-mod HeldParts
+pub mod Groups
+pub mod HeldParts
+pub mod Requests
 mod OneKind
-mod FormsTold
+pub mod FormsTold
 mod Signers
 mod Read
 mod Verdicts
 mod Tested
 mod ByForm
-mod Outcome
+pub mod Outcome

@@ -142,10 +142,15 @@ Unordered f m ShowCert i = ⊥
 
 -- The facts that a message of a form has where it passes the checks.
 pub record Passed (f : ℕ) (accepts : List ℕ → Bool) (m : List ℕ) (form : Form) : Type 0 where
+  -- its records are those of the form;
   pub kinds : Has-form f m form
+  -- each statement is in range;
   pub fields : (i : ℕ) → i < records m → in-range f (statement-at m i) ≡ true
+  -- each record agrees with its group;
   pub alike : (i : ℕ) → i < records m → Agrees f m form i
+  -- the GRANTs of a RESOLVE make two claims at least;
   pub clashing : One-claim f m form → ⊥
+  -- the records of a group have different signers,
   pub different
       : (first n : ℕ)
       → Group f form first n
@@ -156,9 +161,13 @@ pub record Passed (f : ℕ) (accepts : List ℕ → Bool) (m : List ℕ) (form :
       → j < first + n
       → signer-at m i ≡ signer-at m j
       → i ≡ j
+  -- each of them a site of the pool;
   pub sites : (first n : ℕ) → Group f form first n → (i : ℕ) → first ≤ i → i < first + n → signer-at m i < 3 * f + 1
+  -- the notary accepts each record but a SHOW;
   pub vouched : Sealed form → (i : ℕ) → i < records m → accepts (record-at m i) ≡ true
+  -- no START is above the target;
   pub reached : (i : ℕ) → i < records m → Above f m form i → ⊥
+  -- and the clients of the REQUESTs rise strictly.
   pub rising : (i : ℕ) → i < records m → Unordered f m form i → ⊥
 
 -- A message is accepted exactly where the buffers fit, it is whole, and it has a form with which it passes; and then it says what its form says.
