@@ -6,3 +6,6 @@ pub mod Settling
 pub mod Answers
 pub mod Rules
 pub mod Call
+pub mod Life
+pub mod OneBook
+pub mod LifeExample

@@ -9,6 +9,7 @@ ghost use Rattle.message.specs.Records.{stated};
 ghost use Rattle.message.specs.Saying.{sent, requests-in};
 ghost use Rattle.site.specs.Answers.{taken as taken-at};
 ghost use Rattle.site.specs.Ledgers.{kept-of, calls, answer-to, performed, restored};
+ghost use Rattle.site.specs.OneBook.{In-every-life};
 ghost use Rattle.site.specs.Rules.{step as step-of, Does, written, struck, strikes-object, if-taken, looked};
 ghost use Rattle.record.specs.Claims.{claim-of};
 ghost use mathlib.Core.Path.{_≡_};
@@ -20,12 +21,12 @@ use crate::figures::Figures;
 use crate::fitting::fitted;
 use crate::reply::Reply;
 use crate::reply::Then;
+use crate::replying::write_reply;
 use crate::state::FRESH;
 use crate::state::Ledger;
 use crate::state::Stage;
 use crate::state::State;
 use crate::tables::table_of;
-use crate::writing::write_reply;
 use message::Message;
 use message::Part;
 use message::Refusal;
@@ -234,8 +235,8 @@ impl<N: Notary, O: Object> Site<N, O> {
         self.step(quorum(self.figures.f), &message)
     }
 
-    /// A call: the message's bytes, the output for the reply, and the board. Gives the number of bytes written, or a refusal.
-    fn call(
+    /// The call, by what it leaves.
+    fn answer(
         &mut self,
         message: &[u8],
         output: &mut [u8],
@@ -246,5 +247,22 @@ impl<N: Notary, O: Object> Site<N, O> {
     {
         let reply = self.accept(message, output.len(), board)?;
         Ok(write_reply(&self.figures, &self.state, &reply, output))
+    }
+
+    /// A call: the message's bytes, the output for the reply, and the board. Gives the number of bytes written, or a refusal.
+    ///
+    /// What it leaves is what the rules say, for any bytes and any buffers. And in every life of a pool of such sites, this
+    /// call leads to the life with this event, and the promise holds of it: the pool keeps one book.
+    pub fn call(
+        &mut self,
+        message: &[u8],
+        output: &mut [u8],
+        board: &mut [u8],
+    ) -> Result<usize, Refusal>
+        ensures leaves { λ r. ⌜ Leaves (O·Object .rules) (call-of (O·Object .rules) (now (self .entry) .figures .f) (now (self .entry) .figures .number) (N·Notary .means (now (self .entry) .notary)) (now (self .entry) .state) (kept-of (O·Object .rules) (O·Object .value) (O·Object .before) (now (self .entry) .object)) (now (message .entry)) (now (output .entry)) (now (board .entry))) (now (self .exit) .state) (kept-of (O·Object .rules) (O·Object .value) (O·Object .before) (now (self .exit) .object)) (now (output .exit)) (now (board .exit)) r ⌝ }
+        ensures same { λ _. ⌜ now (self .exit) .notary ≡ now (self .entry) .notary ⌝ ∗ ⌜ now (self .exit) .figures ≡ now (self .entry) .figures ⌝ }
+        ensures lives { λ r. ⌜ In-every-life (O·Object .rules) (now (self .entry) .figures .f) (now (self .entry) .figures .number) (N·Notary .means (now (self .entry) .notary)) (now (self .entry) .state) (kept-of (O·Object .rules) (O·Object .value) (O·Object .before) (now (self .entry) .object)) (now (message .entry)) (now (output .entry)) (now (board .entry)) (now (self .exit) .state) (kept-of (O·Object .rules) (O·Object .value) (O·Object .before) (now (self .exit) .object)) (now (output .exit)) r ⌝ }
+    {
+        self.answer(message, output, board)
     }
 }

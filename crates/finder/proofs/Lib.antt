@@ -1,0 +1,5 @@
+mod Best
+mod Classes
+mod Preference
+mod Quorums
+mod Steps

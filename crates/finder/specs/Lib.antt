@@ -1,0 +1,5 @@
+pub mod Groups
+pub mod Law
+pub mod Members
+pub mod Order
+pub mod Replies
