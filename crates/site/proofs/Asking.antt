@@ -43,7 +43,7 @@ use Rattle.site.specs.declared.state.State.{State}
 use Rattle.site.proofs.Going.{due-in-bytes, Goes, goes-by, stays, Fine, by-one}
 use Rattle.site.proofs.Likeness.{told, all-told, Sized, Sized-request, Settled, Out, no-out, an-out, Ledgered, Backed-up, Like, like-open, like-frozen, done-of}
 use Rattle.site.proofs.Writes.{Done-once, done-found, still-ledgered, still-backed}
-use Rattle.site.proofs.Writing.{Fitting}
+use Rattle.site.proofs.ReadBack.{Fitting}
 
 -- Where a stored ANSWER comes from: an entry.
 pub record Stored-answer (s : ℕ) (o : Option Done) (x : Statement) : Type 0 where

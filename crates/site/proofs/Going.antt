@@ -28,7 +28,7 @@ use Rattle.site.specs.declared.reply.Reply.{Reply}
 use Rattle.site.specs.declared.state.State.{State}
 use Rattle.site.proofs.Likeness.{told, Like, like-open, like-frozen, like-pulling, like-settling}
 use Rattle.site.proofs.Writes.{still-ledgered, still-backed}
-use Rattle.site.proofs.Writing.{in-bytes, own-bytes, Fitting, one-own}
+use Rattle.site.proofs.ReadBack.{in-bytes, own-bytes, Fitting, one-own}
 
 -- An answer in eight bytes is the one due by the rules for records.
 pub due-in-bytes : (R : Rules) (v : R .Value) (c : Claimed) → due R v (told c) % 2 ^ 64 ≡ due (in-records R) v (told c)

@@ -2,7 +2,7 @@ mod Keeping
 mod Matching
 pub mod Refusing
 pub mod Turning
-pub mod Writing
+pub mod ReadBack
 pub mod Telling
 pub mod Groups
 pub mod Likeness

@@ -42,7 +42,7 @@ use Rattle.site.proofs.Going.{still-like, Goes, stays, Fine, by-one, bytes-put
 use Rattle.site.proofs.Likeness.{told, all-told, Sized, Sized-claims, Settled, unsettled, by-settlement, Out, no-out, an-out, Repeatable, Latest, no-write, last-write, Ledgered, Like, like-open, like-frozen, like-pulling, like-settling}
 use Rattle.site.proofs.Settlements.{Found, settled-found}
 use Rattle.site.proofs.Telling.{still-wrote}
-use Rattle.site.proofs.Writing.{Fitting}
+use Rattle.site.proofs.ReadBack.{Fitting}
 
 -- The grant that a site shows -----------------------------------------------------------------------------------
 
