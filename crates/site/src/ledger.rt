@@ -23,7 +23,7 @@ fn kept(certificate: &[u8]) -> [u8; CERTIFICATE]
 
 impl Ledger {
     /// Notes a write as done.
-    pub fn note(&mut self, claim: &Claim, certificate: &[u8], answer: u64, called: bool)
+    pub(crate) fn note(&mut self, claim: &Claim, certificate: &[u8], answer: u64, called: bool)
         ensures { λ _. ⌜ now (self .exit) ≡ noted (now (self .entry)) (now (claim .entry)) (now (certificate .entry)) answer called ⌝ }
     {
         let backup = Backup {
@@ -58,7 +58,7 @@ impl Ledger {
     }
 
     /// Takes the last write back, and says whether that calls the object.
-    pub fn take_back(&mut self) -> bool
+    pub(crate) fn take_back(&mut self) -> bool
         ensures said { λ r. ⌜ r ≡ calls-back (now (self .entry) .backup) ⌝ }
         ensures after { λ _. ⌜ now (self .exit) ≡ taken-back (now (self .entry)) (now (self .entry) .backup) ⌝ }
     {

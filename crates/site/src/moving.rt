@@ -24,7 +24,7 @@ fn settlement(ledger: &Ledger, target: Place, requests: &Requests) -> Settlement
 
 impl State {
     /// The ledger has one write more: the site goes on to what comes then.
-    pub fn go_on(&mut self, then: Then)
+    pub(crate) fn go_on(&mut self, then: Then)
         ensures { λ _. ⌜ now (self .exit) ≡ moved (now (self .entry)) (now (self .entry) .ledger) then ⌝ }
     {
         self.asked = NOBODY;
@@ -56,7 +56,7 @@ impl State {
     }
 
     /// The next round begins: PULLING below the target, else SETTLING.
-    pub fn begin(&mut self, target: Place, requests: &Requests)
+    pub(crate) fn begin(&mut self, target: Place, requests: &Requests)
         requires { ⌜ now self .round < 2000000000 ⌝ }
         ensures { λ _. ⌜ now (self .exit) ≡ begun (now (self .entry)) (now (self .entry) .ledger) target (now (requests .entry)) ⌝ }
     {

@@ -22,7 +22,7 @@ use record::Statement;
 
 impl State {
     /// The round whose certificates a site does: its own, or the one that it left, while it is PULLING.
-    pub fn due(&self) -> Round
+    pub(crate) fn due(&self) -> Round
         ensures { λ r. ⌜ r ≡ due-in (now (self .entry) .stage) (now (self .entry) .round) ⌝ }
     {
         match self.stage {
@@ -33,7 +33,7 @@ impl State {
 
     /// What a site becomes once it has done the write of a message: PULLING that reaches its target settles, and SETTLING
     /// that reaches its last place is open.
-    pub fn then(&self, message: &Message<'_>) -> Then
+    pub(crate) fn then(&self, message: &Message<'_>) -> Then
         ensures { λ r. ⌜ r ≡ then-in (now (self .entry) .stage) (sent (now (message .entry))) ⌝ }
     {
         match (&self.stage, message) {
@@ -46,7 +46,12 @@ impl State {
     }
 
     /// A request at an OPEN site. The index is that of the REQUEST in its message.
-    pub fn request(&mut self, site: u8, request: &Request, index: usize) -> Result<Reply, SiteFault>
+    pub(crate) fn request(
+        &mut self,
+        site: u8,
+        request: &Request,
+        index: usize,
+    ) -> Result<Reply, SiteFault>
         ensures state { λ _. ⌜ now (self .exit) ≡ requested site (now (self .entry)) (now (request .entry)) index .state ⌝ }
         ensures reply { λ r. ⌜ r ≡ requested site (now (self .entry)) (now (request .entry)) index .reply ⌝ }
     {
@@ -66,7 +71,7 @@ impl State {
     }
 
     /// GRANTs of one round and place for different claims, at an OPEN site: it freezes, or they are too old to freeze for.
-    pub fn clash(
+    pub(crate) fn clash(
         &mut self,
         site: u8,
         index: usize,
@@ -88,7 +93,7 @@ impl State {
     }
 
     /// The site's grant at a place: of its settlement, or the one that is out.
-    pub fn show_grant(&self, site: u8, place: Place) -> Result<Reply, SiteFault>
+    pub(crate) fn show_grant(&self, site: u8, place: Place) -> Result<Reply, SiteFault>
         ensures { λ r. ⌜ r ≡ grant-shown site (now (self .entry)) (or-out (settled-at (now (self .entry) .settlement) (now (self .entry) .round) place) (now (self .entry) .asked .out) place) .reply ⌝ }
     {
         match self.granted_at(place) {
@@ -98,7 +103,7 @@ impl State {
     }
 
     /// The current certificate.
-    pub fn show_cert(&self) -> Result<Reply, SiteFault>
+    pub(crate) fn show_cert(&self) -> Result<Reply, SiteFault>
         ensures { λ r. ⌜ r ≡ cert-shown (now (self .entry)) (now (self .entry) .ledger .current) .reply ⌝ }
     {
         match self.ledger.current {
