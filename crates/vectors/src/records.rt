@@ -140,7 +140,7 @@ const RECORDS: [Vector; 9] = [
 ];
 
 // The 80 bytes that a text writes.
-pub fn bytes(heap: Global, hex: &str) -> Result<[u8; 80], Fail> {
+fn bytes(heap: Global, hex: &str) -> Result<[u8; 80], Fail> {
     let all = from_hex(heap, hex)?.ok_or("no hexadecimal text")?;
     Ok(
         <[u8; 80]>::try_from(all.as_slice())
