@@ -4,11 +4,11 @@ use Rattle.assurance.proofs.telling.judge_reading.Goals as goal
 pub returns : goal.returns
 returns g c =
     let office = c.args.office.now in
-    let known = c.judge-reading.ensures in
+    let known = c.judge_reading.ensures in
     record {
       leaves = known.leaves;
       exact = known.exact;
       only = known.only;
       worth = known.worth;
-      in_book = λ sound. judge_reading_in_book g.O.Object.rules office.figures.f office.figures.client (g.N.Notary.means office.notary) office.desk c.judge-reading.result known.exact sound;
+      in_book = λ sound. judge_reading_in_book g.O.Object.rules office.figures.f office.figures.client (g.N.Notary.means office.notary) office.desk c.judge_reading.result known.exact sound;
     }

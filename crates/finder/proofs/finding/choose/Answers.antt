@@ -12,9 +12,9 @@ returns-then-has g c =
     let goes : ℕ → ℕ → Bool =
     together (g.L.Likeness.counted c.args.likeness.now) (g.L.Likeness.likened c.args.likeness.now) c.args.replies.now
     in
-    let first : members c.first-of.result ≡ take c.args.q c.class-class.result.sites =
-    ap (λ n. take n c.first-of.result.sites) c.first-of.ensures.counted
-    ∙ ap (take c.args.q) c.first-of.ensures.same
+    let first : members c.first_of.result ≡ take c.args.q c.class-class.result.sites =
+    ap (λ n. take n c.first_of.result.sites) c.first_of.ensures.counted
+    ∙ ap (take c.args.q) c.first_of.ensures.same
     in
     ap Some first
     ∙ large_enough

@@ -19,15 +19,15 @@ loop-i-preserved c =
     let m = c.args.message.now in
     let less : c.loop-i.i < records m = omega arith in
     passed_over (test c.args.f m) c.loop-i.i (records m) less
-    (tested c.args.f m c.loop-i.i _ c.statement_at.ensures c.in_range.ensures ∙ ap not c.if-not-in-range.false)
+    (tested c.args.f m c.loop-i.i _ c.statement_at.ensures c.in_range.ensures ∙ ap not c.if-not-in_range.false)
     c.loop-i.invariant
 
-pub returns-then-not-in-range : goal.returns-then-not-in-range
-returns-then-not-in-range c =
+pub returns-then-not-in_range : goal.returns-then-not-in_range
+returns-then-not-in_range c =
     let m = c.args.message.now in
     let less : c.loop-i.i < records m = omega arith in
     stopped_at (test c.args.f m) c.loop-i.i (records m) less
-    (tested c.args.f m c.loop-i.i _ c.statement_at.ensures c.in_range.ensures ∙ ap not c.if-not-in-range.true)
+    (tested c.args.f m c.loop-i.i _ c.statement_at.ensures c.in_range.ensures ∙ ap not c.if-not-in_range.true)
     c.loop-i.invariant
 
 pub returns : goal.returns

@@ -19,16 +19,16 @@ loop-k-preserved c =
     let part = c.args.requests.now.bytes.now in
     let less : c.loop-k.k < records part = omega arith in
     passed_over (test part) c.loop-k.k (records part) less
-    (tested part c.loop-k.k _ _ c.statement-at-before.ensures c.statement_at.ensures c.not-rising.ensures ∙ c.if-not-rising.false)
+    (tested part c.loop-k.k _ _ c.statement_at-before.ensures c.statement_at.ensures c.not_rising.ensures ∙ c.if-not_rising.false)
     c.loop-k.invariant
 
-pub returns-then-not-rising : goal.returns-then-not-rising
-returns-then-not-rising c =
+pub returns-then-not_rising : goal.returns-then-not_rising
+returns-then-not_rising c =
     let part = c.args.requests.now.bytes.now in
     let less : c.loop-k.k < records part = omega arith in
     record {
       value = stopped_at (test part) c.loop-k.k (records part) less
-          (tested part c.loop-k.k _ _ c.statement-at-before.ensures c.statement_at.ensures c.not-rising.ensures ∙ c.if-not-rising.true)
+          (tested part c.loop-k.k _ _ c.statement_at-before.ensures c.statement_at.ensures c.not_rising.ensures ∙ c.if-not_rising.true)
           c.loop-k.invariant;
       within = less;
     }

@@ -11,12 +11,12 @@ loop-i-init c =
 pub loop-i-preserved : goal.loop-i-preserved
 loop-i-preserved c =
     let less : c.loop-i.i < c.args.first + c.args.n = omega arith in
-    kind_passed c.args.kind c.args.message.now c.loop-i.i (c.args.first + c.args.n) less (sym c.is_kind.ensures ∙ c.if-not-is-kind.false) c.loop-i.invariant
+    kind_passed c.args.kind c.args.message.now c.loop-i.i (c.args.first + c.args.n) less (sym c.is_kind.ensures ∙ c.if-not-is_kind.false) c.loop-i.invariant
 
-pub returns-then-not-is-kind : goal.returns-then-not-is-kind
-returns-then-not-is-kind c =
+pub returns-then-not-is_kind : goal.returns-then-not-is_kind
+returns-then-not-is_kind c =
     let less : c.loop-i.i < c.args.first + c.args.n = omega arith in
-    kind_failed c.args.kind c.args.message.now c.loop-i.i (c.args.first + c.args.n) less (sym c.is_kind.ensures ∙ c.if-not-is-kind.true) c.loop-i.invariant
+    kind_failed c.args.kind c.args.message.now c.loop-i.i (c.args.first + c.args.n) less (sym c.is_kind.ensures ∙ c.if-not-is_kind.true) c.loop-i.invariant
 
 pub returns : goal.returns
 returns c =

@@ -10,7 +10,7 @@ returns c =
     let s = c.args.sealer.now in
     let statement = statement_part c.args.bytes.now in
     let value =
-    c.with-seal.ensures
+    c.with_seal.ensures
     ∙ ap (λ m. statement ++ m) (c.seal.ensures.value ∙ ap (sealed s) c.statement_part.ensures)
     in
     record {

@@ -6,5 +6,5 @@ pub returns : goal.returns
 returns c =
     let e : (c.args.at + 80) - c.args.at ≡ 80 = omega arith in
     let d = drop-drop 80 c.args.at c.args.output.now in
-    let same = c.copy-from-slice.ensures.after in
+    let same = c.copy_from_slice.ensures.after in
     rw e (cc)

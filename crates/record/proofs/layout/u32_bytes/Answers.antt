@@ -4,4 +4,4 @@ use Rattle.record.proofs.layout.u32_bytes.Goals as goal
 
 pub returns : goal.returns
 unfolding bytes_of_number
-returns c = simp div-div-eq-div-mul c.to-be-bytes.ensures
+returns c = simp div-div-eq-div-mul c.to_be_bytes.ensures

@@ -4,12 +4,12 @@ use Rattle.sha256.proofs.Rounds.{rounds_none, rounds_more, rounds_all}
 use Rattle.sha256.proofs.compression.compress.Goals as goal
 
 pub loop-i-init : goal.loop-i-init
-loop-i-init c = rounds_none c.expand-w.result c.from-words-working.result
+loop-i-init c = rounds_none c.expand-w.result c.from_words-working.result
 
 pub loop-i-preserved : goal.loop-i-preserved
 loop-i-preserved c =
     let ws = c.expand-w.result in
-    let from = c.from-words-working.result in
+    let from = c.from_words-working.result in
     let t = 8 * c.loop-i.i in
     let next : 8 * (c.loop-i.i + 1) ≡ t + 7 + 1 = omega arith in
     let h1 : c.round.result ≡ rounds (t + 1) ws from
@@ -37,15 +37,15 @@ loop-i-preserved c =
 
 pub returns : goal.returns
 returns c =
-    c.add-to.ensures
+    c.add_to.ensures
     ∙ rounds_all
     c.args.words.now
     c.args.block.now
     c.expand-w.result
-    c.from-words-working.result
+    c.from_words-working.result
     c.loop-i.working
     (8 * c.loop-i.i)
     (omega arith)
     c.expand-w.ensures
-    c.from-words-working.ensures
+    c.from_words-working.ensures
     c.loop-i.invariant

@@ -9,9 +9,9 @@ loop-t-preserved c =
     c.loop-t.w
     c.args.block.now
     c.loop-t.t
-    c.word-at.result
+    c.word_at.result
     c.loop-t-test.true
-    c.word-at.ensures
+    c.word_at.ensures
     c.loop-t.invariant
 
 pub loop-t-2-init : goal.loop-t-2-init
@@ -27,7 +27,7 @@ loop-t-2-init c = (
 pub loop-t-2-preserved : goal.loop-t-2-preserved
 loop-t-2-preserved c =
     simp
-    c.next-word.ensures
+    c.next_word.ensures
     (extended_more
     c.loop-t-2.w
     (words_of c.args.block.now)

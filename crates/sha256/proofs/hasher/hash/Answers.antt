@@ -3,4 +3,4 @@ use Rattle.sha256.proofs.TakingIn.{from_nothing}
 use Rattle.sha256.proofs.hasher.hash.Goals as goal
 
 pub returns : goal.returns
-returns c = c.finish-from.ensures ∙ from_nothing c.args.message.now
+returns c = c.finish_from.ensures ∙ from_nothing c.args.message.now

@@ -4,18 +4,18 @@ use Rattle.sha256.specs.Compression.{compressed}
 use Rattle.sha256.specs.Digest.{digest}
 use Rattle.sha256.proofs.Ending.{ended_short, ended_long, length-behind}
 use Rattle.sha256.proofs.padding.finish.Goals as goal
-use Rattle.sha256.proofs.padding.finish.Goals.{then-not-has-room, else-not-has-room}
+use Rattle.sha256.proofs.padding.finish.Goals.{then-not-has_room, else-not-has_room}
 
 pub returns : goal.returns
 returns c =
-    let block = c.put-length.new.block in
+    let block = c.put_length.new.block in
     let tail = c.args.tail.now in
-    c.to-bytes.ensures
+    c.to_bytes.ensures
     ∙ ap
     digest
     (c.compress-2.ensures
-    ∙ elim c.if-not-has-room.branch [
-      | then-not-has-room w ↦
+    ∙ elim c.if-not-has_room.branch [
+      | then-not-has_room w ↦
           ap (λ ws. compressed ws block) (w.words-is ∙ w.compress.ensures)
           ∙ ended_long
           c.args.words.now
@@ -24,11 +24,11 @@ returns c =
           block
           c.args.total
           c.requires
-          (ltb-false (length tail) 56 (sym w.if-not-has-room.ensures))
+          (ltb-false (length tail) 56 (sym w.if-not-has_room.ensures))
           c.marked-block.ensures
-          (c.put-length.ensures ∙ length-behind c.args.total w.block-is)
-          c.put-length.array_long
-      | else-not-has-room w ↦
+          (c.put_length.ensures ∙ length-behind c.args.total w.block-is)
+          c.put_length.array_long
+      | else-not-has_room w ↦
           ap (λ ws. compressed ws block) w.words-is
           ∙ ended_short
           c.args.words.now
@@ -37,8 +37,8 @@ returns c =
           block
           c.args.total
           c.requires
-          (ltb-true (length tail) 56 (sym w.if-not-has-room.ensures))
+          (ltb-true (length tail) 56 (sym w.if-not-has_room.ensures))
           c.marked-block.ensures
-          (c.put-length.ensures ∙ length-behind c.args.total w.block-is)
-          c.put-length.array_long
+          (c.put_length.ensures ∙ length-behind c.args.total w.block-is)
+          c.put_length.array_long
     ])

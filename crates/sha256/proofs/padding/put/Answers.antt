@@ -5,7 +5,7 @@ pub returns : goal.returns
 returns c =
     put_is
     c.args.block.now
-    c.copy-from-slice.new.self
+    c.copy_from_slice.new.self
     c.args.bytes.now
     c.args.at
-    c.copy-from-slice.ensures.after
+    c.copy_from_slice.ensures.after

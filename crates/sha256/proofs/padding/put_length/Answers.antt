@@ -8,8 +8,8 @@ returns c =
     length-put
     c.put.new.block
     c.args.block.now
-    c.to-be-bytes.result
+    c.to_be_bytes.result
     c.args.total
     c.told-block
-    (c.to-be-bytes.ensures ∙ ap eight_bytes c.bits.ensures)
+    (c.to_be_bytes.ensures ∙ ap eight_bytes c.bits.ensures)
     c.put.ensures

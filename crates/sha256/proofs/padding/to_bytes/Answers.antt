@@ -6,12 +6,12 @@ pub loop-i-preserved : goal.loop-i-preserved
 loop-i-preserved c =
     bytes_more
     c.loop-i.bytes
-    c.copy-from-slice.new.self
+    c.copy_from_slice.new.self
     c.args.words.now
     c.loop-i.i
     c.loop-i-test.true
     c.told-words
-    (c.copy-from-slice.ensures.after ∙ c.to-be-bytes.ensures)
+    (c.copy_from_slice.ensures.after ∙ c.to_be_bytes.ensures)
     c.loop-i.invariant
 
 pub returns : goal.returns

@@ -5,27 +5,27 @@ use Rattle.text.proofs.hex.from_hex.Goals as goal
 
 pub returns-in-default : goal.returns-in-default
 returns-in-default c =
-    bad_high c.as-bytes-digits.result.now (vec_items c.loop-i.bytes) c.loop-i.i (omega arith) c.loop-i.invariant c.in-default.ensures.value
-    ∙ ap hex_bytes c.as-bytes-digits.ensures.value
+    bad_high c.as_bytes-digits.result.now (vec_items c.loop-i.bytes) c.loop-i.i (omega arith) c.loop-i.invariant c.in-default.ensures.value
+    ∙ ap hex_bytes c.as_bytes-digits.ensures.value
 
 pub returns-in-default-value : goal.returns-in-default-value
 returns-in-default-value c =
-    bad_low c.as-bytes-digits.result.now (vec_items c.loop-i.bytes) c.loop-i.i (omega arith) c.loop-i.invariant c.in-default-value.ensures.value
-    ∙ ap hex_bytes c.as-bytes-digits.ensures.value
+    bad_low c.as_bytes-digits.result.now (vec_items c.loop-i.bytes) c.loop-i.i (omega arith) c.loop-i.invariant c.in-default-value.ensures.value
+    ∙ ap hex_bytes c.as_bytes-digits.ensures.value
 
 pub loop-i-preserved : goal.loop-i-preserved
 loop-i-preserved c =
-    let more = good_pair c.as-bytes-digits.result.now (vec_items c.loop-i.bytes) c.loop-i.i c.in-Some.high c.in-Some-value.low (omega arith) c.loop-i.invariant
+    let more = good_pair c.as_bytes-digits.result.now (vec_items c.loop-i.bytes) c.loop-i.i c.in-Some.high c.in-Some-value.low (omega arith) c.loop-i.invariant
     c.in-Some.ensures.value c.in-Some-value.ensures.value in
     let items = c.in-ok-push.ensures.items in
     cc
 
 pub returns-then-digits-eq1 : goal.returns-then-digits-eq1
 returns-then-digits-eq1 c =
-    odd_end c.as-bytes-digits.result.now (vec_items c.loop-i.bytes) c.loop-i.i (omega arith) c.loop-i.invariant
-    ∙ ap hex_bytes c.as-bytes-digits.ensures.value
+    odd_end c.as_bytes-digits.result.now (vec_items c.loop-i.bytes) c.loop-i.i (omega arith) c.loop-i.invariant
+    ∙ ap hex_bytes c.as_bytes-digits.ensures.value
 
 pub returns : goal.returns
 returns c =
-    even_end c.as-bytes-digits.result.now (vec_items c.loop-i.bytes) c.loop-i.i (omega arith) c.loop-i.invariant
-    ∙ ap hex_bytes c.as-bytes-digits.ensures.value
+    even_end c.as_bytes-digits.result.now (vec_items c.loop-i.bytes) c.loop-i.i (omega arith) c.loop-i.invariant
+    ∙ ap hex_bytes c.as_bytes-digits.ensures.value

@@ -14,13 +14,12 @@ deposit-requires c =
     let is = ap (λ balances. holding balances c.args.to) c.withdraw.ensures in
     record { exists = c.requires.takes; fits = omega (arith, most, is, c.args.self.now.kept) }
 
-pub invariant-of-self : goal.invariant-of-self
-invariant-of-self c =
+pub invariant_of-self : goal.invariant_of-self
+invariant_of-self c =
     let from : c.args.from < length c.args.self.now.balances = omega arith in
     let to : c.args.to < length c.args.self.now.balances = omega arith in
-    let left = ap (λ balances. more balances c.args.to c.args.amount) c.withdraw.ensures in (
-      ap total (c.deposit.ensures ∙ left)
+    let left = ap (λ balances. more balances c.args.to c.args.amount) c.withdraw.ensures in record {
+      kept = ap total (c.deposit.ensures ∙ left)
           ∙ moved_total c.args.self.now.balances c.args.from c.args.to c.args.amount from to c.requires.enough
-          ∙ c.args.self.now.kept,
-      tt,
-    )
+          ∙ c.args.self.now.kept;
+    }

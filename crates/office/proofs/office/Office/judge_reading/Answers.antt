@@ -16,13 +16,13 @@ returns g c =
     let accepts = g.N.Notary.means office.notary in
     let desk = office.desk in
     let slots = desk.readings.at in
-    let known = c.reading-verdict.ensures in
+    let known = c.reading_verdict.ensures in
     record {
       leaves = known.leaves;
       exact = made_so (λ (j : Judged). ReadingWarranted (quorum f) slots j.verdict) (λ (j : Judged). Exact ReadAnswer (quorum f) slots j.verdict)
-          (λ j right. exact_reading (quorum f) slots j.verdict right) c.reading-verdict.result known.right;
+          (λ j right. exact_reading (quorum f) slots j.verdict right) c.reading_verdict.result known.right;
       only = λ sound. made_so (λ (j : Judged). ReadingWarranted (quorum f) slots j.verdict) (λ (j : Judged). OneAnswer ReadAnswer (quorum f) slots j.verdict)
-          (λ j right. decided_reading f client accepts desk sound j.verdict (exact_reading (quorum f) slots j.verdict right)) c.reading-verdict.result known.right;
+          (λ j right. decided_reading f client accepts desk sound j.verdict (exact_reading (quorum f) slots j.verdict right)) c.reading_verdict.result known.right;
       worth = λ sound. made_so (λ (j : Judged). ReadingWarranted (quorum f) slots j.verdict) (λ (j : Judged). ReadingWorth f client accepts desk j.verdict)
-          (λ j right. reading_worth f client accepts desk (few_faulty f client office.figures.fit) sound j.verdict right) c.reading-verdict.result known.right;
+          (λ j right. reading_worth f client accepts desk (few_faulty f client office.figures.fit) sound j.verdict right) c.reading_verdict.result known.right;
     }

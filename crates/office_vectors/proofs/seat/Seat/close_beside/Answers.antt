@@ -11,7 +11,7 @@ invariant-of-other c =
       (
         held_beside mine.figures.client theirs.figures.client c.close.new.self.figures.client mine.desk.write theirs.desk c.close.new.self.desk c.args.self.now.ticket c.take.result
             c.in-Some.ticket c.args.other.now.ticket _ c.args.self.now.paired c.take.ensures.value c.in-Some.is
-            (sym c.is-like.ensures ∙ c.if-is-like.false) (ap (λ (f : Figures). f.client) c.close.ensures.same.1) c.close.ensures.desk
+            (sym c.is_like.ensures ∙ c.if-is_like.false) (ap (λ (f : Figures). f.client) c.close.ensures.same.1) c.close.ensures.desk
             c.args.other.now.paired,
         tt,
       ),

@@ -7,11 +7,11 @@ pub invariant-of-other : goal.invariant-of-other
 invariant-of-other c =
     let mine = c.args.self.now.office in
     let theirs = c.args.other.now.office in (
-      c.args.other.now.known ∙ sym (ap (λ (f : Figures). f.client) c.give-up.ensures.same.1),
+      c.args.other.now.known ∙ sym (ap (λ (f : Figures). f.client) c.give_up.ensures.same.1),
       (
-        held_beside mine.figures.client theirs.figures.client c.give-up.new.self.figures.client mine.desk.write theirs.desk c.give-up.new.self.desk c.args.self.now.ticket c.take.result
+        held_beside mine.figures.client theirs.figures.client c.give_up.new.self.figures.client mine.desk.write theirs.desk c.give_up.new.self.desk c.args.self.now.ticket c.take.result
             c.in-Some.ticket c.args.other.now.ticket _ c.args.self.now.paired c.take.ensures.value c.in-Some.is
-            (sym c.is-like.ensures ∙ c.if-is-like.false) (ap (λ (f : Figures). f.client) c.give-up.ensures.same.1) c.give-up.ensures.desk
+            (sym c.is_like.ensures ∙ c.if-is_like.false) (ap (λ (f : Figures). f.client) c.give_up.ensures.same.1) c.give_up.ensures.desk
             c.args.other.now.paired,
         tt,
       ),

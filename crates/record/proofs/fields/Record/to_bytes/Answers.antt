@@ -4,12 +4,12 @@ use Rattle.record.proofs.fields.Record.to_bytes.Goals as goal
 
 pub returns : goal.returns
 returns c =
-    let n : length c.u32-bytes.result ≡ 4 = search rules in
-    let r : length c.u32-bytes-2.result ≡ 4 = search rules in
-    let p : length c.u32-bytes-3.result ≡ 4 = search rules in
+    let n : length c.u32_bytes.result ≡ 4 = search rules in
+    let r : length c.u32_bytes-2.result ≡ 4 = search rules in
+    let p : length c.u32_bytes-3.result ≡ 4 = search rules in
     let o : length c.args.self.now.statement.operation ≡ 16 = search rules in
-    let a : length c.u64-bytes.result ≡ 8 = search rules in
-    let m : length c.u64-bytes-2.result ≡ 8 = search rules in
+    let a : length c.u64_bytes.result ≡ 8 = search rules in
+    let m : length c.u64_bytes-2.result ≡ 8 = search rules in
     let s : length c.args.self.now.seal ≡ 32 = search rules in
     let long : length c.put-8.new.out ≡ 80 = search rules in
     let whole = fills c.put.new.out c.put-2.new.out c.put-3.new.out c.put-4.new.out c.put-5.new.out c.put-6.new.out c.put-7.new.out c.put-8.new.out

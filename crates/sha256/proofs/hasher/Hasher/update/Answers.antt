@@ -26,8 +26,8 @@ unfolding digest_with
 returns c =
     let h = c.args.self.now in
     let part = c.args.part.now in
-    let head = c.split-at.result.0.now in
-    let others = c.split-at.result.1.now in
+    let head = c.split_at.result.0.now in
+    let others = c.split_at.result.1.now in
     let rest = c.absorb-rest.result.now in
     let block = c.put-2.new.block in
     let tail = c.put-3.new.block in
@@ -50,7 +50,7 @@ returns c =
     part
     others
     h.total
-    c.split-at.ensures.back_len
+    c.split_at.ensures.back_len
     c.absorb-rest.ensures.rest
     c.put-3.ensures)
     ∙ c.absorb-rest.ensures.after z
@@ -64,7 +64,7 @@ returns c =
     others
     h.total
     long
-    c.split-at.ensures.front-len
-    c.split-at.ensures.by_index.0
+    c.split_at.ensures.front_len
+    c.split_at.ensures.by_index.0
     c.put-2.ensures
     z)

@@ -8,6 +8,6 @@ pub returns : goal.returns
 returns c =
     let s = c.args.self.now in
     let message = c.args.message.now in
-    let value = c.finish-behind.ensures ∙ ap (sha_256_from s.outer 64) c.finish-behind-inner.ensures in
+    let value = c.finish_behind.ensures ∙ ap (sha_256_from s.outer 64) c.finish_behind-inner.ensures in
     record
     { value = value; under = λ key e. value ∙ ap (λ t. sealed t message) e ∙ sealed_is_hmac key message }
