@@ -9,7 +9,7 @@ use Rattle.message.proofs.Tested.{claim_alike, claim_unlike, place_alike, place_
 use Rattle.message.proofs.Verdicts.{Verdict, passed, refused, of_part, of_both}
 use Rattle.message.specs.Checks.{unlike, first_unlike, signed_among, first_again, first_unvouched, first_above, first_unordered, refuse, after, clash, agreed, clashing, distinct, vouched, reached, ordered}
 use Rattle.message.specs.Forms.{quorum}
-use Rattle.message.specs.Laws.{claim_at, round_at, place_at, signer_at, client_at, HasForm, Group, Agrees, OneClaim, Again, Sealed, Above, Unordered}
+use Rattle.message.specs.Laws.{claim_at, round_at, place_at, signer_at, client_at, HasForm, Group, Agrees, IsOneClaim, Again, Sealed, Above, Unordered}
 use Rattle.message.specs.Records.{records, record_at, statement_at, group, lowest}
 use Rattle.message.specs.Saying.{target}
 use Rattle.message.specs.declared.agreement.Agreement.{Agreement}
@@ -136,7 +136,7 @@ module _ (f : ℕ) (m : List ℕ) where
   claim_in_group n k less = let z : 0 + k ≡ k = omega arith in ap claim_of (statement_group m 0 n k less) ∙ ap (claim_at m) z
 
   same_of_resolve : quorum f ≤ records m
-      → ((clashing f m Resolve ≡ Ok tt) × (OneClaim f m Resolve → ⊥)) ⊎ ((clashing f m Resolve ≡ Err Same) × OneClaim f m Resolve)
+      → ((clashing f m Resolve ≡ Ok tt) × (IsOneClaim f m Resolve → ⊥)) ⊎ ((clashing f m Resolve ≡ Err Same) × IsOneClaim f m Resolve)
   same_of_resolve within =
       let part = group m 0 (quorum f) in
       let long : records part ≡ quorum f = records-group m 0 (quorum f) (omega arith) in
@@ -162,7 +162,7 @@ module _ (f : ℕ) (m : List ℕ) where
       (found_or_never t 0 (records part))
 
   pub same_verdict : (form : Form) → HasForm f m form
-      → ((clashing f m form ≡ Ok tt) × (OneClaim f m form → ⊥)) ⊎ ((clashing f m form ≡ Err Same) × OneClaim f m form)
+      → ((clashing f m form ≡ Ok tt) × (IsOneClaim f m form → ⊥)) ⊎ ((clashing f m form ≡ Err Same) × IsOneClaim f m form)
   same_verdict Write1 h = inl (refl, λ one. one)
   same_verdict Read h = inl (refl, λ one. one)
   same_verdict Write2 h = inl (refl, λ one. one)

@@ -10,7 +10,7 @@ use Rattle.message.proofs.Signers.{site_grant, site_start}
 use Rattle.message.proofs.Verdicts.{Verdict, passed, refused}
 use Rattle.message.specs.Checks.{buffers_fit, whole, first_outside, in_fields, known_form, read_form, refuse, after, agreed, clashing, distinct, vouched, reached, ordered, certified, checks}
 use Rattle.message.specs.Forms.{quorum, form_of}
-use Rattle.message.specs.Laws.{signer_at, Fit, Whole, HasForm, Group, Agrees, OneClaim, Again, Sealed, Above, Unordered, Passed, AcceptedWhenPassed, AtRecord, Present, Before, FirstFaultNamed}
+use Rattle.message.specs.Laws.{signer_at, Fit, Whole, HasForm, Group, Agrees, IsOneClaim, Again, Sealed, Above, Unordered, Passed, AcceptedWhenPassed, AtRecord, Present, Before, FirstFaultNamed}
 use Rattle.message.specs.Records.{records, record_at, statement_at, lowest}
 use Rattle.message.specs.Refusals.{refusal_of_certificate}
 use Rattle.message.specs.Said.{Said}
@@ -193,11 +193,11 @@ module _ (f : ℕ) (accepts : List ℕ → Bool) (m : List ℕ) (room board : �
         clash form j (first j before) (subst (λ x. Bad x j) (one_form f m p.0 form p.1 h) p.3)))
 
     -- The one check that is not of each record: SAME.
-    stage_same : 0 < records m → Clear 6 → {rest : Result Said CertificateFault} → (Clear 7 → (OneClaim f m form → ⊥) → Outcome rest) → Outcome (after (clashing f m form) rest)
+    stage_same : 0 < records m → Clear 6 → {rest : Result Said CertificateFault} → (Clear 7 → (IsOneClaim f m form → ⊥) → Outcome rest) → Outcome (after (clashing f m form) rest)
     stage_same some clear {rest} next =
         ⊎_elim
         (λ p. subst (λ r. Outcome (after r rest)) (sym p.0)
-        (next (clear_more 6 clear (λ i there. p.1 (subst (OneClaim f m) (one_form f m there.0 form there.1 h) there.3))) p.1))
+        (next (clear_more 6 clear (λ i there. p.1 (subst (IsOneClaim f m) (one_form f m there.0 form there.1 h) there.3))) p.1))
         (λ p. subst (λ r. Outcome (after r rest)) (sym p.0)
         (named Same (form, h, some, p.1) (first_at 6 0 Same refl refl clear (λ j before. absurd (omega arith)))))
         (same_verdict f m form h)
@@ -294,7 +294,7 @@ module _ (f : ℕ) (accepts : List ℕ → Bool) (m : List ℕ) (room board : �
     no_fault (Message Kind) there = there form p.kinds
     no_fault (Message (Field i)) there = both_ways _ there.1 (p.fields i there.0)
     no_fault (Mixed i) there = subst (λ x. Agrees f m x i → ⊥) (same_form there.0 there.1) there.3 (p.alike i there.2)
-    no_fault Same there = p.clashing (subst (OneClaim f m) (same_form there.0 there.1) there.3)
+    no_fault Same there = p.clashing (subst (IsOneClaim f m) (same_form there.0 there.1) there.3)
     no_fault (Twice i) there =
         let again : Again f m form i = subst (λ x. Again f m x i) (same_form there.0 there.1) there.3 in
         let q = again.4 in

@@ -88,14 +88,14 @@ Agrees f m ShowGrant i = Unit {0}
 Agrees f m ShowCert i = Unit {0}
 
 -- One claim throughout the GRANTs of a RESOLVE.
-abbrev pub OneClaim : ℕ → List ℕ → Form → Type 0
-OneClaim f m Write1 = ⊥
-OneClaim f m Read = ⊥
-OneClaim f m Write2 = ⊥
-OneClaim f m Resolve = (i : ℕ) → i < quorum f → claim_at m i ≡ claim_at m 0
-OneClaim f m (Round grants requests) = ⊥
-OneClaim f m ShowGrant = ⊥
-OneClaim f m ShowCert = ⊥
+abbrev pub IsOneClaim : ℕ → List ℕ → Form → Type 0
+IsOneClaim f m Write1 = ⊥
+IsOneClaim f m Read = ⊥
+IsOneClaim f m Write2 = ⊥
+IsOneClaim f m Resolve = (i : ℕ) → i < quorum f → claim_at m i ≡ claim_at m 0
+IsOneClaim f m (Round grants requests) = ⊥
+IsOneClaim f m ShowGrant = ⊥
+IsOneClaim f m ShowCert = ⊥
 
 -- An earlier record of the same group has the signer of record i.
 abbrev pub Again : ℕ → List ℕ → Form → ℕ → Type 0
@@ -142,7 +142,7 @@ pub record Passed (f : ℕ) (accepts : List ℕ → Bool) (m : List ℕ) (form :
   -- each record agrees with its group;
   pub alike : (i : ℕ) → i < records m → Agrees f m form i
   -- the GRANTs of a RESOLVE make two claims at least;
-  pub clashing : OneClaim f m form → ⊥
+  pub clashing : IsOneClaim f m form → ⊥
   -- the records of a group have different signers,
   pub different
       : (first n : ℕ)
@@ -181,7 +181,7 @@ Present f accepts m room board (Message Length) = Whole m → ⊥
 Present f accepts m room board (Message No-form) = (form : Form) → HasForm f m form → ⊥
 Present f accepts m room board (Message (Field i)) = (i < records m) × (in_range f (statement_at m i) ≡ false)
 Present f accepts m room board (Mixed i) = AtRecord f m i (λ form. Agrees f m form i → ⊥)
-Present f accepts m room board Same = AtRecord f m 0 (λ form. OneClaim f m form)
+Present f accepts m room board Same = AtRecord f m 0 (λ form. IsOneClaim f m form)
 Present f accepts m room board (Twice i) = AtRecord f m i (λ form. Again f m form i)
 Present f accepts m room board (Unvouched i) = AtRecord f m i (λ form. Sealed form × (accepts (record_at m i) ≡ false))
 Present f accepts m room board (Low i) = AtRecord f m i (λ form. Above f m form i)

@@ -8,7 +8,7 @@ use Rattle.finder.specs.Law.{Pairs, Agree}
 use Rattle.message.proofs.Outcome.{accepted_when_passed}
 use Rattle.message.specs.Checks.{checks}
 use Rattle.message.specs.Forms.{quorum}
-use Rattle.message.specs.Laws.{Passed, claim_at, signer_at, round_at, place_at, OneClaim}
+use Rattle.message.specs.Laws.{Passed, claim_at, signer_at, round_at, place_at, IsOneClaim}
 use Rattle.message.specs.Limits.{least_room, board_size}
 use Rattle.message.specs.Records.{records, record_at, statement_at}
 use Rattle.message.specs.Said.{write_2, resolve, request_of}
@@ -177,7 +177,7 @@ module _ (f client : ℕ) (accepts : List ℕ → Bool) (desk : Desk) (slots : L
     places k less = place_parts first.statement (statement_at n k) (likened one_place first sites asked n enough all refl k less)
 
     -- one claim throughout would be a quorum of that claim
-    not_one : OneClaim f n Resolve → ⊥
+    not_one : IsOneClaim f n Resolve → ⊥
     not_one same =
         never sites
         (one_throughout sites (claim_at n 0) quorate

@@ -23,7 +23,7 @@ loop-k-preserved c =
     let part = c.args.part.now.bytes.now in
     let less : c.loop-k.k < records part = omega arith in
     passed_over (test c.args.agreement part) c.loop-k.k (records part) less
-    (tested c.args.agreement part c.loop-k.k _ _ less c.statement_first.ensures c.statement_at.ensures c.broken.ensures ∙ c.if-broken.false)
+    (tested c.args.agreement part c.loop-k.k _ _ less c.statement-first.ensures c.statement_at.ensures c.broken.ensures ∙ c.if-broken.false)
     c.loop-k.invariant
 
 pub returns-then-broken : goal.returns-then-broken
@@ -32,7 +32,7 @@ returns-then-broken c =
     let less : c.loop-k.k < records part = omega arith in
     record {
       value = stopped_at (test c.args.agreement part) c.loop-k.k (records part) less
-          (tested c.args.agreement part c.loop-k.k _ _ less c.statement_first.ensures c.statement_at.ensures c.broken.ensures ∙ c.if-broken.true)
+          (tested c.args.agreement part c.loop-k.k _ _ less c.statement-first.ensures c.statement_at.ensures c.broken.ensures ∙ c.if-broken.true)
           c.loop-k.invariant;
       within = less;
     }
