@@ -3,7 +3,7 @@ use Rattle.std.proofs.lemmas.List.{at_drop_all}
 use Rattle.site.specs.Settling.{request_at}
 use Rattle.site.proofs.Turning.{passed_none, passed_some, found_some}
 use Rattle.site.proofs.tables.request_at.Goals as goal
-use Rattle.site.proofs.tables.request_at.Goals.{in-Some+else-at-from, in-default}
+use Rattle.site.proofs.tables.request_at.Goals.{in-Some+else-at-from, in_default}
 
 pub returns-then-at-from : goal.returns-then-at-from
 returns-then-at-from c =
@@ -21,9 +21,9 @@ loop-request-preserved c =
             w.in-Some.request w.in-Some.is (λ e. w.if-at-from.false (e ∙ sym w.from.ensures)) c.loop-request.invariant.0,
         omega (arith, w.at-is, c.loop-request.invariant.1),
       )
-      | in-default w ↦ (
+      | in_default w ↦ (
         ap (λ a. request_at (drop (c.loop-request.request-index + 1) c.args.requests.now) c.args.round a c.args.place) w.at-is
-            ∙ passed_none c.args.requests.now c.loop-request.request-index c.args.round c.loop-request.at c.args.place within w.in-default.is c.loop-request.invariant.0,
+            ∙ passed_none c.args.requests.now c.loop-request.request-index c.args.round c.loop-request.at c.args.place within w.in_default.is c.loop-request.invariant.0,
         omega (arith, w.at-is, c.loop-request.invariant.1),
       )
     ]

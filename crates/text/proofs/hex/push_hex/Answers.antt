@@ -14,8 +14,8 @@ loop-b-preserved c =
     let la : c.digit-in-loop-b.result < 128 = rw l (digit_ascii (get_or c.args.bytes.now c.loop-b.b-index 0 % 16) (omega arith)) in
     let he = c.push.ensures.ascii ha in
     let le = c.push-in-loop-b.ensures.ascii la in
-    let first = c.in-ok-push.ensures.bytes in
-    let second = c.in-ok-push-2.ensures.bytes in
+    let first = c.in_ok-push.ensures.bytes in
+    let second = c.in_ok-push-2.ensures.bytes in
     one_more _ _ _ _ _ c.args.bytes.now c.loop-b.b-index within c.loop-b.invariant (he ∙ ap (λ d. d ∷ []) h) (le ∙ ap (λ d. d ∷ []) l) (cc)
 
 pub returns : goal.returns

@@ -5,12 +5,12 @@ use Rattle.office.specs.declared.figures.Figures.{Figures}
 use Rattle.exchange.proofs.Pairing.{begin_refused, begun_alone, still_paired, begins_refused}
 use Rattle.exchange.proofs.seat.Seat.begin.Goals as goal
 
-pub invariant-of-self : goal.invariant-of-self
-invariant-of-self c =
+pub invariant_of-self : goal.invariant_of-self
+invariant_of-self c =
     let office = c.args.self.now.office in
     let after = c.begin.new.self in
     let stays = begin_refused office.figures.client office.desk after.desk c.args.operation.now c.args.output.now c.args.board.now
-    c.begin.new.output c.begin.new.board c.begin.result c.in-err-ticket.field-0.0 c.begin.ensures.leaves c.in-err-ticket.was in (
+    c.begin.new.output c.begin.new.board c.begin.result c.in_err-ticket.field-0.0 c.begin.ensures.leaves c.in_err-ticket.was in (
       still_paired office.figures.client after.figures.client office.desk.write after.desk.write c.args.self.now.ticket
           (ap (λ (f : Figures). f.client) c.begin.ensures.same.1) stays c.args.self.now.paired,
       tt,
@@ -20,18 +20,18 @@ pub drop-before-requires : goal.drop-before-requires
 drop-before-requires c =
     let office = c.args.self.now.office in
     begun_alone office.figures.client office.desk c.begin.new.self.desk c.args.operation.now c.args.output.now c.args.board.now
-    c.begin.new.output c.begin.new.board c.begin.result c.in-ok-ticket.field-0 c.args.self.now.ticket c.in-Some.-before
-    c.begin.ensures.leaves c.in-ok-ticket.was c.args.self.now.paired (sym c.replace.ensures.value ∙ c.in-Some.is)
+    c.begin.new.output c.begin.new.board c.begin.result c.in_ok-ticket.field-0 c.args.self.now.ticket c.in-Some.-before
+    c.begin.ensures.leaves c.in_ok-ticket.was c.args.self.now.paired (sym c.replace.ensures.value ∙ c.in-Some.is)
 
-pub returns-in-err-ticket : goal.returns-in-err-ticket
-returns-in-err-ticket c =
+pub returns-in_err-ticket : goal.returns-in_err-ticket
+returns-in_err-ticket c =
     let office = c.args.self.now.office in
     let left = c.begin.ensures.leaves in
-    let p = err_from_is_err_and c.from-residual.result c.from-residual.ensures.1 in
+    let p = err_from_is_err_and c.from_residual.result c.from_residual.ensures.1 in
     record {
       desk = left.desk;
       output = left.output;
       board = left.board;
       result = begins_refused (begin_call office.figures.client office.desk c.args.operation.now c.args.output.now c.args.board.now)
-          c.begin.result c.in-err-ticket.field-0.0 c.from-residual.result c.args.self.now.ticket left.result c.in-err-ticket.was (p.1 ∙ ap Err p.2);
+          c.begin.result c.in_err-ticket.field-0.0 c.from_residual.result c.args.self.now.ticket left.result c.in_err-ticket.was (p.1 ∙ ap Err p.2);
     }

@@ -3,8 +3,8 @@ use Rattle.office.specs.declared.figures.Figures.{Figures}
 use Rattle.exchange.proofs.Pairing.{query_leaves, still_paired}
 use Rattle.exchange.proofs.seat.Seat.query.Goals as goal
 
-pub invariant-of-self : goal.invariant-of-self
-invariant-of-self c =
+pub invariant_of-self : goal.invariant_of-self
+invariant_of-self c =
     let office = c.args.self.now.office in
     let after = c.query.new.self in
     let stays = query_leaves office.figures.client c.args.nonce office.desk after.desk

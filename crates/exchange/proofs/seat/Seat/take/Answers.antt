@@ -4,8 +4,8 @@ use Rattle.office.specs.declared.figures.Figures.{Figures}
 use Rattle.exchange.proofs.Pairing.{take_leaves, still_paired}
 use Rattle.exchange.proofs.seat.Seat.take.Goals as goal
 
-pub invariant-of-self : goal.invariant-of-self
-invariant-of-self c =
+pub invariant_of-self : goal.invariant_of-self
+invariant_of-self c =
     let office = c.args.self.now.office in
     let after = c.take.new.self in
     let stays = take_leaves office.figures.f office.figures.client (sealed_under office.notary.sites office.notary.clients) office.desk after.desk

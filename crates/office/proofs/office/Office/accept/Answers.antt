@@ -17,13 +17,13 @@ returns g c =
     let board = c.args.board.now in
     let found = vouched_reply client accepts desk (read_reply f c.args.message.now) in
     let step = taken f client accepts desk c.args.message.now in
-    let filed = passed (buffers_fit c.args.room (length board)) found client desk c.in-ok-bytes.bytes.now c.in-ok-bytes.ensures.value in
-    let reply = c.read_reply.ensures in
+    let filed = passed (buffers_fit c.args.room (length board)) found client desk c.in_ok-bytes.bytes.now c.in_ok-bytes.ensures.value in
+    let reply = c.read-reply.ensures in
     let after : c.accept.new.self ≡ desk_or desk (fits_first c.args.room (length board) step) = c.accept.ensures.desk ∙ ap (λ (r : Record). desk_or desk (filing client desk r)) reply ∙ ap (desk_or desk) (sym filed) in
     record {
       desk = after;
       result = c.accept.ensures.result ∙ ap (λ (r : Record). done_or (filing client desk r)) reply ∙ ap done_or (sym filed);
-      board = c.in-ok-bytes.ensures.board;
+      board = c.in_ok-bytes.ensures.board;
       stays = c.accept.ensures.stays;
       same = (refl, refl);
       keeps =

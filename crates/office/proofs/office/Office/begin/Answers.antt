@@ -9,18 +9,18 @@ use Rattle.office.specs.declared.ticket.Begun.{Begun}
 use Rattle.office.specs.declared.ticket.Ticket.{Ticket}
 use Rattle.office.proofs.office.Office.begin.Goals as goal
 
-pub returns-in-err-number : goal.returns-in-err-number
-returns-in-err-number g c =
+pub returns-in_err-number : goal.returns-in_err-number
+returns-in_err-number g c =
     let office = c.args.self.now in
     let output = c.args.output.now in
     let board = c.args.board.now in
-    let known = c.in-err-number.ensures in
-    let p = err_from_is_err_and c.from-residual.result c.from-residual.ensures.1 in
+    let known = c.in_err-number.ensures in
+    let p = err_from_is_err_and c.from_residual.result c.from_residual.ensures.1 in
     record {
       leaves = not_begun (buffers_fit (length output) (length board)) (number_begun office.desk office.desk.write) office.figures.client
           office.desk c.open.new.self.desk c.args.operation.now output (board_after (length output) board) c.open.new.board
-          c.in-err-number.field-0.0 c.from-residual.result known.number known.desk known.board (p.1 ∙ ap Err p.2);
-      good = refused_made (λ (b : Begun). GoodTicket office.figures.client c.open.new.self.desk.write b.ticket) c.from-residual.result p.0 p.1;
+          c.in_err-number.field-0.0 c.from_residual.result known.number known.desk known.board (p.1 ∙ ap Err p.2);
+      good = refused_made (λ (b : Begun). GoodTicket office.figures.client c.open.new.self.desk.write b.ticket) c.from_residual.result p.0 p.1;
       same = known.same;
       keeps = known.keeps;
     }
@@ -32,8 +32,8 @@ returns g c =
     let board = c.args.board.now in
     let operation = c.args.operation.now in
     let client = office.figures.client in
-    let number = c.in-ok-number.number in
-    let known = c.in-ok-number.ensures in
+    let number = c.in_ok-number.number in
+    let known = c.in_ok-number.ensures in
     let shown = unsealed (request client number operation) in
     let bytes : c.unsealed.result ≡ shown = c.unsealed.ensures ∙ ap unsealed c.request.ensures in
     let long : length c.unsealed.result ≡ 80 = search rules in

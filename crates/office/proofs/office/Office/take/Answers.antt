@@ -6,16 +6,16 @@ use Rattle.office.specs.Calls.{board_after}
 use Rattle.office.specs.Taking.{taken}
 use Rattle.office.proofs.office.Office.take.Goals as goal
 
-pub returns-in-err-accept : goal.returns-in-err-accept
-returns-in-err-accept g c =
+pub returns-in_err-accept : goal.returns-in_err-accept
+returns-in_err-accept g c =
     let office = c.args.self.now in
     let output = c.args.output.now in
     let board = c.args.board.now in
-    let p = err_from_is_err_and c.from-residual.result c.from-residual.ensures.1 in
-    let known = c.in-err-accept.ensures in
+    let p = err_from_is_err_and c.from_residual.result c.from_residual.ensures.1 in
+    let known = c.in_err-accept.ensures in
     record {
       leaves = refused (buffers_fit (length output) (length board)) (taken office.figures.f office.figures.client (g.N.Notary.means office.notary) office.desk c.args.message.now)
-          office.desk c.accept.new.self.desk output (board_after (length output) board) c.accept.new.board c.in-err-accept.field-0.0 c.from-residual.result
+          office.desk c.accept.new.self.desk output (board_after (length output) board) c.accept.new.board c.in_err-accept.field-0.0 c.from_residual.result
           known.desk known.result known.board (p.1 ∙ ap Err p.2);
       stays = known.stays;
       same = known.same;
@@ -27,7 +27,7 @@ returns g c =
     let office = c.args.self.now in
     let output = c.args.output.now in
     let board = c.args.board.now in
-    let known = c.in-ok-accept.ensures in
+    let known = c.in_ok-accept.ensures in
     record {
       leaves = taken_in (buffers_fit (length output) (length board)) (taken office.figures.f office.figures.client (g.N.Notary.means office.notary) office.desk c.args.message.now)
           office.desk c.accept.new.self.desk output (board_after (length output) board) c.accept.new.board

@@ -3,8 +3,8 @@ use Rattle.office.specs.declared.figures.Figures.{Figures}
 use Rattle.office_vectors.proofs.Pairing.{held_beside}
 use Rattle.office_vectors.proofs.seat.Seat.give_up_beside.Goals as goal
 
-pub invariant-of-other : goal.invariant-of-other
-invariant-of-other c =
+pub invariant_of-other : goal.invariant_of-other
+invariant_of-other c =
     let mine = c.args.self.now.office in
     let theirs = c.args.other.now.office in (
       c.args.other.now.known ∙ sym (ap (λ (f : Figures). f.client) c.give_up.ensures.same.1),

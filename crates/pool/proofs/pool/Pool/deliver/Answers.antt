@@ -25,10 +25,10 @@ returns g c =
     let new : Entry = c.of.result in
     let s = c.from-at.ensures in
     let told : heard new ≡ record { site = i; message = c.args.message.now; result = c.call-result.result; written = put c.call-result.result c.call-result.new.output } =
-    c.of.ensures ∙ same_heard _ _ _ _ _ _ c.call-result.result (sym s) c.in-ok-message_kept.ensures.items c.fill.ensures in
+    c.of.ensures ∙ same_heard _ _ _ _ _ _ c.call-result.result (sym s) c.in_ok-message_kept.ensures.items c.fill.ensures in
     let below : i < length c.args.self.now.sites.items = omega (arith, c.args.self.now.sites.ok.0, c.len.ensures, c.if-at-len.false) in
     let more : c.push_reserved.new.self.items ≡ c.args.self.now.transcript.items ++ new ∷ [] =
-    c.push_reserved.ensures.items ∙ ap (λ (l : List Entry). l ++ new ∷ []) c.in-ok-reserve.ensures.items in
+    c.push_reserved.ensures.items ∙ ap (λ (l : List Entry). l ++ new ∷ []) c.in_ok-reserve.ensures.items in
     let done = called_there R g.N.Notary.means g.O.Object.value g.O.Object.before c.index-mut.result.now c.call-result.new.self
     c.args.self.now.sites.items c.args.self.now.transcript.items c.push_reserved.new.self.items new i c.args.site c.args.message.now c.args.output.now c.args.board.now
     c.call-result.new.output c.call-result.new.board c.call-result.result

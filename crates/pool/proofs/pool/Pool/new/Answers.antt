@@ -14,9 +14,9 @@ pub loop-number-preserved : goal.loop-number-preserved
 loop-number-preserved g c =
     let long : length c.loop-number.sites.items ≡ c.loop-number.number = omega (arith, c.loop-number.sites.ok.0) in
     let made = c.new.ensures in (
-      c.in-ok-push.ensures.len ∙ ap (λ k. k + 1) c.loop-number.invariant.0,
+      c.in_ok-push.ensures.len ∙ ap (λ k. k + 1) c.loop-number.invariant.0,
       site_more g.O.Object.rules g.N.Notary.means g.O.Object.value g.O.Object.before c.args.notary c.args.object
           c.fitted-fit.result.f c.fitted-fit.result.number c.loop-number.number c.loop-number.sites.items c.push.new.self.items c.new.result
           c.fitted-fit.result.fit c.loop-number-test.true long c.loop-number.invariant.1
-          made.figures.0 made.figures.1 made.fresh made.kept.0 made.kept.1 c.in-ok-push.ensures.items,
+          made.figures.0 made.figures.1 made.fresh made.kept.0 made.kept.1 c.in_ok-push.ensures.items,
     )

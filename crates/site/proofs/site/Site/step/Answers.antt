@@ -11,6 +11,6 @@ returns-in-Open-Round g c = record {
 
 pub returns-in-Frozen-Round : goal.returns-in-Frozen-Round
 returns-in-Frozen-Round g c = record {
-  does = in_round _ _ c.args.index _ _ _ _ _ _ _ _ _ (ap sent c.in-Frozen-Round.is-1) (inr c.in-Frozen-Round.is-0) c.take_in-Frozen-Round.ensures.does;
-  same = c.take_in-Frozen-Round.ensures.same;
+  does = in_round _ _ c.args.index _ _ _ _ _ _ _ _ _ (ap sent c.in-Frozen-Round.is-1) (inr c.in-Frozen-Round.is-0) c.take-in-Frozen-Round.ensures.does;
+  same = c.take-in-Frozen-Round.ensures.same;
 }
