@@ -28,5 +28,5 @@ returns g c =
       same = (refl, refl);
       keeps =
           λ sound. sound_as f client accepts (desk_or desk (fits_first c.args.room (length board) step)) c.accept.new.self after
-          (short_sound f client accepts desk c.args.room (length board) step sound (taken_sound f client accepts desk c.args.message.now (typed_bytes c.args.message.now c.type-inv.message) sound));
+          (short_sound f client accepts desk c.args.room (length board) step sound (taken_sound f client accepts desk c.args.message.now (typed_bytes c.args.message.now c.type_inv.message) sound));
     }
