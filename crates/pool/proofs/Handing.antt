@@ -1,5 +1,5 @@
 -- One site's call, as a step of the pool.
-use Rattle.std.proofs.Common.{◌≡◌, ℕ, zero, suc, ◌+◌, ◌-◌, ◌<◌, ◌≤◌, min, Bool, true, false, cond, List, [], ◌∷◌, ◌++◌, map, length, get_or, take, set, is_ok, Some, None, Ok, Err, Result, sym, refl, ap, ◌∙◌, subst, arith, MatchResult}
+use Rattle.std.proofs.Common.{◌≡◌, ℕ, zero, suc, ◌+◌, ◌-◌, ◌<◌, ◌≤◌, min, Bool, true, false, cond, List, [], ◌∷◌, ◌++◌, map, length, get_or, take, set, is_ok, Some, None, Ok, Err, Result, sym, refl, ap, ◌∙◌, subst, arith, OnErr}
 use Rattle.std.specs.List.{slice_get}
 use Rattle.std.specs.Option.{option_map}
 use Rattle.std.proofs.lemmas.List.{length-take, map-set, map_push}
@@ -23,14 +23,14 @@ take_within (suc n) (x ∷ l) =
     ap (λ k. take k (x ∷ l)) m ∙ ap (λ r. x ∷ r) (take_within n l)
 
 -- A memory that has room for what is added takes it.
-pub filled : {E : Type 0} (r : Result (Unit {0}) E) (n k : ℕ) (output before after : List ℕ) (cap len size : ℕ) →
+pub filled : {E : Type 0} (r : Result (Unit {0}) E) (n k : ℕ) (output before after : List ℕ) (cap len : ℕ) →
     before ≡ [] → len ≡ 0 → length output ≤ cap → k ≡ min n (length output) → after ≡ cond (is_ok r) (before ++ take (k - 0) output) before →
-    MatchResult r (λ _. size ≡ len + length (take (k - 0) output)) (λ _. cap < len + length (take (k - 0) output)) →
+    OnErr r (cap < len + length (take (k - 0) output)) →
     after ≡ put (Ok n) output
-filled (Ok _) n k output before after cap len size none empty fits least is cases =
+filled (Ok _) n k output before after cap len none empty fits least is full =
     let whole : k - 0 ≡ min n (length output) = omega arith in
     is ∙ ap (λ (l : List ℕ). l ++ take (k - 0) output) none ∙ ap (λ j. take j output) whole ∙ take_within n output
-filled (Err _) n k output before after cap len size none empty fits least is cases =
+filled (Err _) n k output before after cap len none empty fits least is full =
     absurd (omega (arith, length-take (k - 0) output))
 
 pub same_heard : (a b : ℕ) (m n v w : List ℕ) (r : Result ℕ Refusal) → a ≡ b → m ≡ n → v ≡ w →

@@ -13,7 +13,7 @@ impl Entry {
         res: Result<usize, Refusal>,
         written: Vec<u8>,
     ) -> Entry
-        ensures* { λ r. ⌜ heard r ≡ record { site = site; message = message.items; result = res; written = written.items } ⌝ }
+        ensures { heard result ≡ record { site = site; message = message.items; result = res; written = written.items } }
     {
         Entry {
             site,

@@ -21,7 +21,9 @@ pub struct Pool<N: Notary, O: Object> {
 
 /// Keeps the bytes that a call wrote. There is room for as many as its output has.
 fn fill(written: &mut Vec<u8>, res: &Result<usize, Refusal>, output: &[u8])
-    requires { (written.old.items ≡ []) × ((vec_len written.old ≡ 0) × (length output.now ≤ vec_capacity written.old)) }
+    requires empty { written.old.items ≡ [] }
+    requires none { vec_len written.old ≡ 0 }
+    requires room { length output.now ≤ vec_capacity written.old }
     ensures { written.new.items ≡ put res.now output.now }
 {
     if let Ok(n) = res {

@@ -29,8 +29,8 @@ returns g c =
     let below : i < length c.args.self.now.sites.items = omega (arith, c.args.self.now.sites.ok.0, c.len.ensures, c.if-at-len.false) in
     let more : c.push_reserved.new.self.items ≡ c.args.self.now.transcript.items ++ new ∷ [] =
     c.push_reserved.ensures.items ∙ ap (λ (l : List Entry). l ++ new ∷ []) c.in_ok-reserve.ensures.items in
-    let done = called_there R g.N.Notary.means g.O.Object.value g.O.Object.before c.index-mut.result.now c.call-result.new.self
+    let done = called_there R g.N.Notary.means g.O.Object.value g.O.Object.before c.index_mut.result.now c.call-result.new.self
     c.args.self.now.sites.items c.args.self.now.transcript.items c.push_reserved.new.self.items new i c.args.site c.args.message.now c.args.output.now c.args.board.now
     c.call-result.new.output c.call-result.new.board c.call-result.result
-    s below c.index-mut.ensures.value c.call-result.ensures.leaves c.call-result.ensures.same.0 c.call-result.ensures.same.1 more told in
+    s below c.index_mut.ensures.value c.call-result.ensures.leaves c.call-result.ensures.same.0 c.call-result.ensures.same.1 more told in
     record { delivers = done; lives = in_lives _ _ _ _ _ done }
