@@ -1,9 +1,9 @@
 // The program: arguments, files and standard streams, and nothing else.
-use crate::explain::{explain, explain_line, explain_with_keys};
 use crate::play::Player;
-use crate::seals::{seal, vouch};
 use crate::story::story;
 use crate::usage::USAGE;
+use console::explain::{explain, explain_line, explain_with_keys};
+use console::seals::{seal, vouch};
 use std::fs::File;
 use std::io::{BufRead, BufReader, Read};
 use std::{env, fs};

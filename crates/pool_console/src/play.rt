@@ -1,6 +1,6 @@
 // Plays scripts: each line is a command about a pool, or a step on an object alone, and is answered by text.
-use crate::bench::{Answered, Bench};
 use crate::step::Step;
+use console::bench::{Answered, Bench};
 use exchange::rehearsal::Rehearsal;
 use object::Object;
 use object::slots::Slots;
