@@ -15,6 +15,8 @@
 //
 // It allocates nothing and keeps nothing. Whether a reply is genuine, which replies to file and how large a quorum
 // has to be is left to the caller.
+#![tactic(auto)]
+
 mod finding;
 mod group;
 mod likeness;

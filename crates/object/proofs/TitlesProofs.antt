@@ -1,10 +1,9 @@
 -- The laws of titles.
-use Rattle.std.proofs.Common.{◌≡◌, ℕ, ◌≤◌, true, false, ◌&&◌, leb, ◌⊎◌, List, [], ◌∷◌, length, set, Some, sym, refl, ap, ◌∙◌, subst, inl, inr, arith}
-use Rattle.object.specs.Calls.{Moment, called, run, Performs, Throughout}
-use Rattle.object.specs.Rules.{Held, held, nothing, code}
+use Rattle.std.proofs.Common.{◌≡◌, ℕ, ◌≤◌, true, leb, ◌⊎◌, List, [], ◌∷◌, length, set, Some, sym, ap, ◌∙◌, subst, inl, inr, arith}
+use Rattle.object.specs.Calls.{called}
+use Rattle.object.specs.Rules.{nothing, code}
 use Rattle.object.specs.Titles.{titles_first, titles_rules, act, judged, answer_of, number, outcome, receiver, title, state, in_range, right_state, entitled, titles_answer, titles_next}
-use Rattle.object.specs.TitlesLaws.{MovedBy, IssuedBy, OnlyItsHolderMovesATitle, OnlyClient0Issues, SurrenderedStays, SurrenderedForGood, HoldersAreClients}
-use Rattle.object.specs.declared.calls.Call.{Call}
+use Rattle.object.specs.TitlesLaws.{OnlyItsHolderMovesATitle, OnlyClient0Issues, SurrenderedStays, SurrenderedForGood, HoldersAreClients}
 use Rattle.object.specs.declared.calls.Call.TheVariants.{Perform, TakeBack}
 use Rattle.object.specs.declared.titles.Act.{Act}
 use Rattle.object.specs.declared.titles.Act.TheVariants.{Issue, Transfer, Surrender}

@@ -1,13 +1,13 @@
 -- What one write does to the titles.
-use Rattle.std.proofs.Common.{◌≡◌, ℕ, ◌≤◌, Bool, true, false, cond, not, eqb, leb, ◌⊎◌, List, [], ◌∷◌, length, get_or, set, Some, None, Option, sym, refl, ap, ◌∙◌, subst, inl, inr, arith}
+use Rattle.std.proofs.Common.{◌≡◌, ℕ, ◌≤◌, Bool, true, false, cond, not, List, length, set, Some, None, Option, sym, refl, ap, inl, inr, arith}
 use Rattle.object.specs.Rules.{code}
-use Rattle.object.specs.Titles.{act, acted, entitled, judged, next_of, number, outcome, receiver, right_state, in_range, state, title, titles_answer, titles_next}
+use Rattle.object.specs.Titles.{act, acted, judged, next_of, number, outcome, receiver, state, title, titles_next}
 use Rattle.object.specs.declared.titles.Act.{Act}
 use Rattle.object.specs.declared.titles.Act.TheVariants.{Issue, Transfer, Surrender}
 use Rattle.object.specs.declared.titles.Answer.{Answer}
 use Rattle.object.specs.declared.titles.Answer.TheVariants.{Done, OutOfRange, NotEntitled, WrongState}
 use Rattle.object.specs.declared.titles.Title.{Title}
-use Rattle.object.specs.declared.titles.Title.TheVariants.{Unissued, HeldBy, Surrendered}
+use Rattle.object.specs.declared.titles.Title.TheVariants.{Unissued}
 use Rattle.std.proofs.lemmas.List.{get_or-set_same, get_or-set_other, set_past}
 use Rattle.std.proofs.lemmas.Bool.{cases_eq, cases_lt}
 use Rattle.std.proofs.lemmas.Bool.Decides.{nat_tests}

@@ -1,5 +1,5 @@
 -- What an object means: its values, and what each call does to them.
-use Rattle.std.specs.Prelude.{ℕ, ◌<◌, ◌≤◌, Bool, true, false, cond, ◌&&◌, List, nat_le, nat_lt, slice_index}
+use Rattle.std.specs.Prelude.{ℕ, Bool, true, false, ◌&&◌, List, nat_le, nat_lt, slice_index}
 
 -- The meaning of one kind of object. A call is described by the value now, the client's number and the
 -- sixteen bytes of the operation, and by nothing else.

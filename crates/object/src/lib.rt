@@ -7,6 +7,8 @@
 // 16 accounts holds. Each answers every client and every operation as its rules in specs/ say, allocates
 // nothing, and keeps the laws of `laws`. A client's number is taken as given: that a request comes from
 // that client is left to the caller.
+#![tactic(auto)]
+
 ghost use Rattle.object.specs.Rules.{Rules, Held, held, nothing, fit, has, or_else};
 ghost use Rattle.std.specs.Prelude.{◌≡◌, if◌then◌else◌};
 

@@ -1,18 +1,18 @@
 -- The laws of kinds, claims, statements and likeness.
-use Rattle.std.proofs.Common.{◌≡◌, ℕ, zero, suc, ◌+◌, ◌≤◌, Bool, true, false, cond, ◌&&◌, eqb, List, [], ◌∷◌, ◌++◌, length, get_or, take, drop, Some, None, Decides, Option, sym, refl, ap, ◌∙◌, arith}
+use Rattle.std.proofs.Common.{◌≡◌, ℕ, zero, suc, ◌+◌, ◌≤◌, Bool, true, ◌&&◌, eqb, List, length, get_or, take, drop, Some, sym, refl, ap, ◌∙◌, arith}
 use Rattle.std.specs.Str.{bytes_eq}
-use Rattle.std.proofs.lemmas.Bool.{eqb-true, eq-eqb, and_parts, and_from, cond_both}
+use Rattle.std.proofs.lemmas.Bool.{eqb-true, eq-eqb, and_parts, and_from}
 use Rattle.std.proofs.lemmas.Bool.Decides.{nat_tests}
 use Rattle.std.proofs.lemmas.Slice.Eq.{bytes_eq-Decides}
 use Rattle.std.proofs.lemmas.List.{get_or-take, take_at, take-take, drop-take, length-append}
 use Rattle.record.proofs.Digits.{length-bytes_of_number}
 use Rattle.record.proofs.Same.{same_claims, same_statements}
-use Rattle.record.specs.Claims.{claim_of, same_claim, alike, signed_by, no_operation}
+use Rattle.record.specs.Claims.{claim_of, same_claim, no_operation}
 use Rattle.record.specs.Kinds.{kind_number, kind_of}
 use Rattle.record.specs.Laws.{KindsNumbered, ClaimsCompared, AlikeButSigner, AlikeEquivalence, NothingElse, StatementFirst, as_kind}
-use Rattle.record.specs.Layout.{statement_of, record_bytes, statement_bytes}
-use Rattle.record.specs.Numbers.{number_at, bytes_of_number, bytes_at}
-use Rattle.record.specs.Ranges.{in_range, in_range_as, in_range_if}
+use Rattle.record.specs.Layout.{statement_bytes}
+use Rattle.record.specs.Numbers.{number_at, bytes_at}
+use Rattle.record.specs.Ranges.{in_range_as, in_range_if}
 use Rattle.record.specs.declared.fields.Claim.{Claim}
 use Rattle.record.specs.declared.fields.Statement.{Statement}
 use Rattle.record.specs.declared.kind.Kind.{Kind}

@@ -1,10 +1,9 @@
 -- Reading and writing are each other's inverse.
-use Rattle.std.proofs.Common.{◌≡◌, ℕ, ◌+◌, ◌^◌, ◌<◌, ◌≤◌, List, [], ◌∷◌, ◌++◌, length, get_or, take, drop, sym, refl, ap, ◌∙◌, append_assoc, arith}
-use Rattle.std.proofs.lemmas.List.{take-append-drop, take_all, drop-drop, drop_more, length-drop, length-append, take_at, drop_at}
+use Rattle.std.proofs.Common.{◌≡◌, ℕ, ◌+◌, ◌^◌, ◌<◌, List, [], ◌∷◌, ◌++◌, length, get_or, take, drop, sym, refl, ap, ◌∙◌, append_assoc, arith}
+use Rattle.std.proofs.lemmas.List.{take-append-drop, take_all, drop-drop, drop_more, length-drop, take_at, drop_at}
 use Rattle.record.specs.Numbers.{number_at, bytes_of_number, bytes_at}
-use Rattle.record.specs.Layout.{record_of, record_bytes, statement_of, statement_bytes}
-use Rattle.record.specs.RoundTrip.{Bytes, Fits, ReadThenWritten, WrittenThenRead}
-use Rattle.record.specs.declared.fields.Record.{Record}
+use Rattle.record.specs.Layout.{record_bytes}
+use Rattle.record.specs.RoundTrip.{ReadThenWritten, WrittenThenRead}
 use Rattle.record.proofs.Same.{same_statements, same_records}
 use Rattle.record.proofs.Digits.{written_as_read, number_behind, read_as_written, length-bytes_of_number}
 

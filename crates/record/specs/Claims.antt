@@ -4,7 +4,6 @@ use Rattle.std.specs.Str.{bytes_eq}
 use Rattle.record.specs.Kinds.{kind_number}
 use Rattle.record.specs.declared.fields.Claim.{Claim}
 use Rattle.record.specs.declared.fields.Statement.{Statement}
-use Rattle.record.specs.declared.kind.Kind.{Kind}
 use Rattle.record.specs.declared.kind.Kind.TheVariants.{Request, Grant, Question, Answer, ReadAnswer, Start, ShowGrant, ShowCert}
 
 -- An operation of sixteen zero bytes.

@@ -1,5 +1,5 @@
 -- What holds of kinds, claims, statements and likeness, in the format's own words.
-use Rattle.std.specs.Prelude.{◌≡◌, ℕ, Bool, true, List, take, Some, Decides}
+use Rattle.std.specs.Prelude.{◌≡◌, ℕ, true, List, take, Some, Decides}
 use Rattle.record.specs.Claims.{claim_of, same_claim, alike, signed_by, request, grant, question, answer, read_answer, start, show_grant, show_cert}
 use Rattle.record.specs.Kinds.{kind_number, kind_of}
 use Rattle.record.specs.Layout.{statement_of, record_bytes, statement_bytes}

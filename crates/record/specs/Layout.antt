@@ -1,5 +1,5 @@
 -- The layout of a record: which bytes hold which field.
-use Rattle.std.specs.Prelude.{ℕ, List, [], ◌∷◌, ◌++◌, slice_index}
+use Rattle.std.specs.Prelude.{ℕ, List, ◌∷◌, ◌++◌, slice_index}
 use Rattle.record.specs.Numbers.{bytes_at, number_at, bytes_of_number}
 use Rattle.record.specs.declared.fields.Statement.{Statement}
 use Rattle.record.specs.declared.fields.Record.{Record}

@@ -1,5 +1,5 @@
 -- Which fields a statement of each kind may have.
-use Rattle.std.specs.Prelude.{ℕ, ◌*◌, Bool, true, false, cond, ◌&&◌, Some, None, Option, ◌==◌, nat_le}
+use Rattle.std.specs.Prelude.{ℕ, Bool, false, cond, ◌&&◌, Some, None, Option, ◌==◌, nat_le}
 use Rattle.std.specs.Str.{bytes_eq}
 use Rattle.record.specs.Claims.{no_operation}
 use Rattle.record.specs.Kinds.{kind_of}

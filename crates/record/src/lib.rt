@@ -5,6 +5,8 @@
 // fields are in range exactly as the table of kinds in docs/FORMAT.md says, and that likeness of statements
 // is an equivalence. Whether a seal is good is a notary's question, and what a message may hold is that of
 // the crates above.
+#![tactic(auto)]
+
 pub mod claims;
 pub mod fields;
 pub mod kind;

@@ -1,5 +1,5 @@
 -- The start, the step and the end of the loop over the 64 rounds.
-use Rattle.std.proofs.Common.{◌≡◌, ℕ, ◌+◌, List, get_or, sym, refl, ap, ◌∙◌, add-one}
+use Rattle.std.proofs.Common.{◌≡◌, ℕ, ◌+◌, List, get_or, refl, ap, ◌∙◌, add-one}
 use Rattle.sha256.specs.declared.compression.Working.{Working}
 use Rattle.sha256.specs.Compression.{added, after_round, compressed, rounds, schedule, start}
 

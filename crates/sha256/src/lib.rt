@@ -12,6 +12,8 @@
 //!
 //! What it leaves to others: it makes no keys and erases none. It hides no timing that depends on the lengths of key and
 //! message; no branch and no address depends on their bytes as written, and no proof speaks of what the compiler makes of it.
+#![tactic(auto)]
+
 mod blocks;
 mod compression;
 mod hasher;

@@ -1,5 +1,5 @@
-use Rattle.std.proofs.Common.{◌≡◌, ◌<◌, length, take, set, sym, ap, subst, arith}
-use Rattle.sha256.specs.Compression.{extended, words_of}
+use Rattle.std.proofs.Common.{◌≡◌, arith}
+use Rattle.sha256.specs.Compression.{words_of}
 use Rattle.sha256.proofs.Schedule.{WordsMore, words_written, schedule_written, extended_more}
 use Rattle.sha256.proofs.compression.expand.Goals as goal
 

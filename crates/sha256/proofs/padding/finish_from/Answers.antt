@@ -1,4 +1,4 @@
-use Rattle.std.proofs.Common.{◌≡◌, ◌+◌, ◌%◌, ◌^◌, ◌++◌, length, ap, ◌∙◌, arith}
+use Rattle.std.proofs.Common.{◌+◌, ◌%◌, ◌^◌, ◌++◌, length, ap, ◌∙◌, arith}
 use Rattle.sha256.specs.Digest.{absorbed, digest, padding, sha_256_from}
 use Rattle.sha256.proofs.Ending.{padding_same}
 use Rattle.sha256.proofs.padding.finish_from.Goals as goal

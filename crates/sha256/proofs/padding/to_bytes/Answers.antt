@@ -1,4 +1,4 @@
-use Rattle.std.proofs.Common.{◌≡◌, ◌≤◌, ◌∙◌, arith}
+use Rattle.std.proofs.Common.{◌∙◌, arith}
 use Rattle.sha256.proofs.Ending.{bytes_more, bytes_all}
 use Rattle.sha256.proofs.padding.to_bytes.Goals as goal
 

@@ -1,6 +1,6 @@
 -- The total of the accounts bounds what one of them comes to hold, and a move keeps it.
-use Rattle.std.proofs.Common.{◌≡◌, ◌+◌, ◌<◌, ◌≤◌, length, sym, ap, ◌∙◌, subst, arith}
-use Rattle.object.specs.Accounts.{holding, less, more, moved, total}
+use Rattle.std.proofs.Common.{◌<◌, length, ap, ◌∙◌, arith}
+use Rattle.object.specs.Accounts.{holding, more, total}
 use Rattle.object.proofs.Totals.{moved_total, moved_fits}
 use Rattle.object.proofs.accounts.Accounts.transfer.Goals as goal
 

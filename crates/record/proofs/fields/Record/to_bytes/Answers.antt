@@ -1,4 +1,4 @@
-use Rattle.std.proofs.Common.{◌≡◌, length, sym, ◌∙◌, rules}
+use Rattle.std.proofs.Common.{◌≡◌, length, rules}
 use Rattle.record.proofs.Chain.{fills, part_ends}
 use Rattle.record.proofs.fields.Record.to_bytes.Goals as goal
 

@@ -1,5 +1,4 @@
 use Rattle.std.proofs.Common.{◌≡◌, ◌+◌, ◌%◌, ◌^◌, ◌++◌, length, take, ap, ◌∙◌, arith}
-use Rattle.sha256.specs.Compression.{compressed}
 use Rattle.sha256.specs.Digest.{absorbed}
 use Rattle.sha256.specs.InParts.{digest_with}
 use Rattle.sha256.proofs.TakingIn.{moved_on, KeptBack, block_taken, left_behind}
