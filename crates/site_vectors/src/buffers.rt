@@ -45,7 +45,7 @@ fn short_outputs(rt: HostRuntime) -> Result<(), Fail> {
     let message = Request(1, 1, TRANSFER).told();
     refuses(&rt, &mut fresh(1), &message, &mut output, &mut board, SHORT)?;
     assert!(rt; board == [7; 16]);
-    only_begins(&rt, &output, &[]);
+    assert!(rt; only_begins(&output, &[]));
     Ok(())
 }
 
@@ -58,7 +58,7 @@ fn unfit_boards(rt: HostRuntime) -> Result<(), Fail> {
     let mut long = [7; 17];
     refuses(&rt, &mut fresh(1), &message, &mut output, &mut long, SHORT)?;
     assert!(rt; short == [7; 15] && long == [7; 17]);
-    only_begins(&rt, &output, &[]);
+    assert!(rt; only_begins(&output, &[]));
     Ok(())
 }
 
@@ -72,7 +72,7 @@ fn the_shortest_output(rt: HostRuntime) -> Result<(), Fail> {
         return Err(Fail::new("refused"));
     };
     assert!(rt; count == 80 && board == [0; 16]);
-    only_begins(&rt, &output, &Grant(0, FIRST).replied());
+    assert!(rt; only_begins(&output, &Grant(0, FIRST).replied()));
     Ok(())
 }
 
@@ -82,7 +82,7 @@ fn not_whole(rt: &impl Abort, message: &[u8]) -> Result<(), Fail> {
     let mut board = [7; 16];
     refuses(rt, &mut fresh(1), message, &mut output, &mut board, LENGTH)?;
     assert!(rt; board == [0; 16]);
-    only_begins(rt, &output, &[]);
+    assert!(rt; only_begins(&output, &[]));
     Ok(())
 }
 

@@ -57,14 +57,18 @@ fn reply_of(heap: Global, records: &[Said]) -> Result<Vec<u8>, Fail> {
 /// What the output is filled with before a call.
 pub const MARKED: u8 = 170;
 
-/// The output begins with these bytes, and what follows is as it came.
-pub fn only_begins(rt: &impl Abort, output: &[u8], expected: &[u8]) {
-    assert!(rt; expected.len() <= output.len());
-    let (front, back) = output.split_at(expected.len());
-    assert!(rt; front == expected);
-    for byte in back {
-        assert!(rt; *byte == MARKED);
+/// Whether the output begins with these bytes, and what follows is as it came.
+pub fn only_begins(output: &[u8], expected: &[u8]) -> bool {
+    if expected.len() > output.len() {
+        return false;
     }
+    let (front, back) = output.split_at(expected.len());
+    for byte in back {
+        if *byte != MARKED {
+            return false;
+        }
+    }
+    front == expected
 }
 
 /// The bytes that have to be written: none where the call is refused.
@@ -81,62 +85,62 @@ fn leaves(
     site: &mut Tested,
     message: &[u8],
     output: &mut [u8],
+    i: usize,
 ) -> Result<usize, Refusal> {
     let before = *site.state();
     let object = *site.object();
     let mut board = [7; 16];
     let got = site.call(message, output, &mut board);
-    assert!(rt; board == [0; 16]);
+    assert!(rt; board == [0; 16], "the board of call {i}");
     if got.is_err() {
-        assert!(rt; same_state(&before, site.state()));
-        assert!(rt; same_titles(&object, site.object()));
+        assert!(rt; same_state(&before, site.state()), "the state of call {i}");
+        assert!(rt;
+            same_titles(&object, site.object()),
+            "the object of call {i}"
+        );
     }
     got
 }
 
 /// The call returned what is due: the count of the bytes written, or the refusal.
-fn returned(
-    rt: &impl Abort,
-    got: Result<usize, Refusal>,
-    due: Due,
-    written: usize,
-) -> Result<(), Fail> {
+fn returned(rt: &impl Abort, got: Result<usize, Refusal>, due: Due, written: usize, i: usize) {
     match (got, due) {
-        (Ok(count), Due::Replies(_)) => {
-            assert_eq!(rt; count, written);
-            Ok(())
-        },
-        (Err(refusal), Due::Refuses(number, index, layer)) => {
-            assert_eq!(rt;
-                refusal,
-                Refusal {
-                    number,
-                    index,
-                    layer,
-                }
-            );
-            Ok(())
-        },
-        (Ok(_), Due::Refuses(_, _, _)) => Err(Fail::new("not refused")),
-        (Err(_), Due::Replies(_)) => Err(Fail::new("refused")),
+        (Ok(count), Due::Replies(_)) => assert_eq!(rt; count, written, "call {i}"),
+        (Err(refusal), Due::Refuses(number, index, layer)) => assert_eq!(rt;
+            refusal,
+            Refusal {
+                number,
+                index,
+                layer,
+            },
+            "call {i}"
+        ),
+        (Ok(_), Due::Refuses(_, _, _)) => panic!(rt; "call {i} is not refused"),
+        (Err(_), Due::Replies(_)) => panic!(rt; "call {i} is refused"),
     }
 }
 
-/// One call of a table. The output is longer than it has to be, and its other bytes stay.
-fn makes(rt: &impl Abort, heap: Global, site: &mut Tested, call: &Call) -> Result<(), Fail> {
+/// Call i of a table. The output is longer than it has to be, and its other bytes stay.
+fn makes(
+    rt: &impl Abort,
+    heap: Global,
+    site: &mut Tested,
+    call: &Call,
+    i: usize,
+) -> Result<(), Fail> {
     let message = message_of(heap, call.0)?;
     let expected = expected_of(heap, call.1)?;
     let mut output = [MARKED; 900];
-    let got = leaves(rt, site, &message, &mut output);
-    returned(rt, got, call.1, expected.len())?;
-    only_begins(rt, &output, &expected);
+    let got = leaves(rt, site, &message, &mut output, i);
+    returned(rt, got, call.1, expected.len(), i);
+    assert!(rt; only_begins(&output, &expected), "the output of call {i}");
     Ok(())
 }
 
-/// All calls of a table, one after the other. A failure names the call, counted from 0.
+/// All calls of a table, one after the other. A failed assertion names the call, counted from 0.
 pub fn run(rt: &impl Abort, heap: Global, site: &mut Tested, calls: &[Call]) -> Result<(), Fail> {
     for (i, call) in calls.iter().enumerate() {
-        makes(rt, heap, site, call).note(format_args!("call {i} of the table"))?;
+        makes(rt, heap, site, call, i)?;
     }
     Ok(())
 }

@@ -1,5 +1,7 @@
 //! Tests of a site through its public call, against records and refusals that are written out here and not made by the
 //! code under test. Most are tables of calls: what a site is told, and what it has to reply.
+#![tactic(auto)]
+
 #[cfg(test)]
 mod buffers;
 #[cfg(test)]
