@@ -7,7 +7,9 @@ use office::slots::Slots;
 use office::{Judged, Verdict};
 use record::Operation;
 use std::alloc::Global;
-use std::test::*;
+use std::fmt;
+use std::process::Abort;
+use std::test::Fail;
 
 /// A call, or a look at what is filed.
 #[derive(Clone, Copy)]
@@ -57,6 +59,30 @@ pub enum Due {
 /// A step, and what has to come of it.
 #[derive(Clone, Copy)]
 pub struct Call(pub Step, pub Due);
+
+/// Which call an assertion is about, counted from 0.
+#[derive(Clone, Copy)]
+pub enum Which {
+    /// that of a table
+    Call(usize),
+    /// those of a case
+    Case(usize),
+    /// those of a case whose replies come from behind
+    FromBehind(usize),
+    /// those of a case in an order
+    InOrder(usize, usize),
+}
+
+impl fmt::Display for Which {
+    fn fmt<W: fmt::Write>(&self, f: &mut fmt::Formatter<W>) -> fmt::Result {
+        match self {
+            Which::Call(i) => write!(f, "call {i} of the table"),
+            Which::Case(i) => write!(f, "case {i}"),
+            Which::FromBehind(i) => write!(f, "case {i} from behind"),
+            Which::InOrder(i, j) => write!(f, "case {i} in order {j}"),
+        }
+    }
+}
 
 /// What a step gave, but for the bytes that it wrote.
 #[derive(Clone, Copy, PartialEq, Eq, Debug)]
@@ -204,15 +230,18 @@ fn given_of(due: &Due, count: usize) -> Given {
     }
 }
 
-/// The output begins with these bytes, and what follows is as it came.
-pub fn only_begins(output: &[u8], expected: &[u8]) -> Result<(), Fail> {
-    assert!(expected.len() <= output.len());
-    let (front, back) = output.split_at(expected.len());
-    assert!(front == expected);
-    for byte in back {
-        assert!(*byte == MARKED);
+/// Whether the output begins with these bytes, and what follows is as it came.
+pub fn only_begins(output: &[u8], expected: &[u8]) -> bool {
+    if expected.len() > output.len() {
+        return false;
     }
-    Ok(())
+    let (front, back) = output.split_at(expected.len());
+    for byte in back {
+        if *byte != MARKED {
+            return false;
+        }
+    }
+    front == expected
 }
 
 /// The board after a step: zero, but for a step that has none.
@@ -224,33 +253,51 @@ fn board_after(step: &Step) -> [u8; 16] {
 }
 
 /// One call of a table, with an output that is marked throughout: what is not written stays. A refusal leaves the desk.
-pub fn makes_in(heap: Global, seat: &mut Seat, call: &Call, output: &mut [u8]) -> Result<(), Fail> {
+/// A failed assertion says which call it was.
+pub fn makes_in(
+    rt: &impl Abort,
+    heap: Global,
+    which: Which,
+    seat: &mut Seat,
+    call: &Call,
+    output: &mut [u8],
+) -> Result<(), Fail> {
     let before = *seat.office.desk();
     let expected = bytes_of(heap, &call.1)?;
     let mut board = [USED; 16];
     let given = make(seat, &call.0, output, &mut board);
-    assert_eq!(given, given_of(&call.1, expected.len()));
-    assert!(board == board_after(&call.0));
+    assert_eq!(rt; given, given_of(&call.1, expected.len()), "{which}");
+    assert!(rt; board == board_after(&call.0), "the board of {which}");
     if let Given::Refused(_) = given {
-        assert!(same_desk(&before, seat.office.desk()));
+        assert!(rt;
+            same_desk(&before, seat.office.desk()),
+            "the desk of {which}"
+        );
     }
-    only_begins(output, &expected)
+    assert!(rt; only_begins(output, &expected), "the output of {which}");
+    Ok(())
 }
 
 /// One call of a table, with an output that is longer than it has to be.
-pub fn makes(heap: Global, seat: &mut Seat, call: &Call) -> Result<(), Fail> {
-    makes_in(heap, seat, call, &mut [MARKED; 900])
+pub fn makes(
+    rt: &impl Abort,
+    heap: Global,
+    which: Which,
+    seat: &mut Seat,
+    call: &Call,
+) -> Result<(), Fail> {
+    makes_in(rt, heap, which, seat, call, &mut [MARKED; 900])
 }
 
-/// All calls of a table, one after the other. A failure names the call, counted from 0.
-pub fn run(heap: Global, seat: &mut Seat, calls: &[Call]) -> Result<(), Fail> {
+/// All calls of a table, one after the other. A failed assertion names the call, counted from 0.
+pub fn run(rt: &impl Abort, heap: Global, seat: &mut Seat, calls: &[Call]) -> Result<(), Fail> {
     for (i, call) in calls.iter().enumerate() {
-        makes(heap, seat, call).note(format_args!("call {i} of the table"))?;
+        makes(rt, heap, Which::Call(i), seat, call)?;
     }
     Ok(())
 }
 
 /// All calls of a table, at a fresh office of client 3.
-pub fn run_fresh(heap: Global, f: u8, calls: &[Call]) -> Result<(), Fail> {
-    run(heap, &mut Seat::new(f, 3, 0), calls)
+pub fn run_fresh(rt: &impl Abort, heap: Global, f: u8, calls: &[Call]) -> Result<(), Fail> {
+    run(rt, heap, &mut Seat::new(f, 3, 0), calls)
 }

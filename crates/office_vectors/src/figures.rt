@@ -8,7 +8,7 @@ use crate::seat::Seat;
 use message::Refusal;
 use office::Verdict::Certify;
 use office::check_figures;
-use std::test::*;
+use std::test::Fail;
 
 const UNFIT: Refusal = Refusal {
     number: 4,
@@ -40,9 +40,9 @@ const OF_CLIENT_0: Word = Word::Grant(Claim(0, 1, 0, 1, OURS));
 
 #[test]
 fn unfit_figures(rt: HostRuntime) -> Result<(), Fail> {
-    run(rt.alloc(), &mut Seat::new(0, 5, 0), &AS_CLIENT_0)?;
-    run(rt.alloc(), &mut Seat::new(6, 5, 0), &AS_CLIENT_0)?;
-    run(rt.alloc(), &mut Seat::new(5, 16, 0), &AS_CLIENT_0)
+    run(&rt, rt.alloc(), &mut Seat::new(0, 5, 0), &AS_CLIENT_0)?;
+    run(&rt, rt.alloc(), &mut Seat::new(6, 5, 0), &AS_CLIENT_0)?;
+    run(&rt, rt.alloc(), &mut Seat::new(5, 16, 0), &AS_CLIENT_0)
 }
 
 // The highest number is the last. BUSY comes before USED UP, and a question needs no number.
@@ -58,10 +58,16 @@ static LAST_NUMBER: [Call; 6] = [
 #[test]
 fn numbers_are_used_up(rt: HostRuntime) -> Result<(), Fail> {
     run(
+        &rt,
         rt.alloc(),
         &mut Seat::new(1, 3, 4_294_967_294),
         &LAST_NUMBER,
     )?;
     let none_left = [Call(Begin(OURS), Refuses(19, 3))];
-    run(rt.alloc(), &mut Seat::new(1, 3, 4_294_967_295), &none_left)
+    run(
+        &rt,
+        rt.alloc(),
+        &mut Seat::new(1, 3, 4_294_967_295),
+        &none_left,
+    )
 }

@@ -7,7 +7,7 @@ use crate::claims::{
 };
 use crate::lines::{By, Claim, Word};
 use office::Verdict::Wait;
-use std::test::*;
+use std::test::Fail;
 
 const PLACE_256: Word = Word::Grant(Claim(3, 1, 0, 256, OURS));
 
@@ -59,7 +59,7 @@ static LATER: [Call; 32] = [
 
 #[test]
 fn the_later_reply_stays(rt: HostRuntime) -> Result<(), Fail> {
-    run_fresh(rt.alloc(), 1, &LATER)
+    run_fresh(&rt, rt.alloc(), 1, &LATER)
 }
 
 // CLOSE and GIVE UP empty the slots of the write, and leave those of the question.
@@ -87,5 +87,5 @@ static EMPTIED: [Call; 19] = [
 
 #[test]
 fn the_end_of_a_write_empties(rt: HostRuntime) -> Result<(), Fail> {
-    run_fresh(rt.alloc(), 5, &EMPTIED)
+    run_fresh(&rt, rt.alloc(), 5, &EMPTIED)
 }

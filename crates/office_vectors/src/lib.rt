@@ -1,5 +1,7 @@
 //! Tests of an office through its public calls, against records and refusals that are written out here and not made by the
 //! code under test. Most are tables of calls: what an office is told, and what has to come of it.
+#![tactic(auto)]
+
 #[cfg(test)]
 mod buffers;
 #[cfg(test)]

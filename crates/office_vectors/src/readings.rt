@@ -5,7 +5,7 @@ use crate::calls::{Call, run_fresh};
 use crate::claims::{ANSWER, GIVEN, GRANT, NONCE, OURS, READ, READ_AT_2, THEIRS};
 use crate::lines::{By, Claim, Word};
 use office::Verdict::{Certify, Done, Wait};
-use std::test::*;
+use std::test::Fail;
 
 // The nonce differs in its first byte.
 const NEXT: u64 = 0x2112131415161718;
@@ -41,7 +41,7 @@ static REPLACED: [Call; 20] = [
 
 #[test]
 fn the_next_question(rt: HostRuntime) -> Result<(), Fail> {
-    run_fresh(rt.alloc(), 1, &REPLACED)
+    run_fresh(&rt, rt.alloc(), 1, &REPLACED)
 }
 
 // Neither judge counts the other's replies, and a question leaves the write and its replies.
@@ -65,5 +65,5 @@ static BESIDE: [Call; 15] = [
 
 #[test]
 fn beside_a_write(rt: HostRuntime) -> Result<(), Fail> {
-    run_fresh(rt.alloc(), 1, &BESIDE)
+    run_fresh(&rt, rt.alloc(), 1, &BESIDE)
 }

@@ -8,7 +8,7 @@ use crate::claims::{ANSWER, GIVEN, GRANT, MARK, NONCE, OF_ANOTHER, OF_THEIRS, OU
 use crate::lines::{By, Claim, Word};
 use crate::trusting::FORGED;
 use office::Verdict::{Back, Catch, Certify, Clash, Done, Wait};
-use std::test::*;
+use std::test::Fail;
 
 // With nothing open there is nothing to be unlike: UNVOUCHED, or else NONE.
 static NOTHING_OPEN: [Call; 16] = [
@@ -34,7 +34,7 @@ const ANSWER_TO_4: Word = Word::Answer(Claim(4, 1, 0, 1, OURS), GIVEN);
 
 #[test]
 fn with_nothing_open(rt: HostRuntime) -> Result<(), Fail> {
-    run_fresh(rt.alloc(), 1, &NOTHING_OPEN)
+    run_fresh(&rt, rt.alloc(), 1, &NOTHING_OPEN)
 }
 
 // Not 1 to 38 whole records; not one record; not a GRANT, ANSWER or READ-ANSWER.
@@ -60,7 +60,7 @@ static NOT_A_REPLY: [Call; 17] = [
 
 #[test]
 fn what_is_not_a_reply(rt: HostRuntime) -> Result<(), Fail> {
-    run_fresh(rt.alloc(), 1, &NOT_A_REPLY)
+    run_fresh(&rt, rt.alloc(), 1, &NOT_A_REPLY)
 }
 
 // A byte that is out of range, of each field. FIELD comes before MIXED and UNVOUCHED.
@@ -89,7 +89,7 @@ static FIELDS: [Call; 20] = [
 
 #[test]
 fn fields_out_of_range(rt: HostRuntime) -> Result<(), Fail> {
-    run_fresh(rt.alloc(), 1, &FIELDS)
+    run_fresh(&rt, rt.alloc(), 1, &FIELDS)
 }
 
 // An ANSWER of another client, number or operation, and a READ-ANSWER of another client, operation or nonce, are MIXED. MIXED
@@ -126,7 +126,7 @@ static UNLIKE: [Call; 24] = [
 
 #[test]
 fn replies_to_something_else(rt: HostRuntime) -> Result<(), Fail> {
-    run_fresh(rt.alloc(), 1, &UNLIKE)
+    run_fresh(&rt, rt.alloc(), 1, &UNLIKE)
 }
 
 // BUSY while a write is open. CLOSE is refused as WAIT under every verdict but DONE, and its ticket is still good.
@@ -163,5 +163,5 @@ static OPEN: [Call; 25] = [
 
 #[test]
 fn while_a_write_is_open(rt: HostRuntime) -> Result<(), Fail> {
-    run_fresh(rt.alloc(), 1, &OPEN)
+    run_fresh(&rt, rt.alloc(), 1, &OPEN)
 }

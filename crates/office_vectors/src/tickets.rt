@@ -11,7 +11,9 @@ use message::Refusal;
 use office::Office;
 use office::Verdict::Done;
 use office::desk::CLEAR;
-use std::test::*;
+use std::alloc::Global;
+use std::process::Abort;
+use std::test::Fail;
 
 const NONE: Refusal = Refusal {
     number: 21,
@@ -30,11 +32,11 @@ static ANSWERED: [Call; 3] = [
 fn at_an_office_with_no_write(rt: HostRuntime) -> Result<(), Fail> {
     let mut seat = Seat::new(1, 3, 0);
     let mut other = Office::new(1, 3, Trusting {});
-    run(rt.alloc(), &mut seat, &ANSWERED)?;
+    run(&rt, rt.alloc(), &mut seat, &ANSWERED)?;
     assert_eq!(rt; seat.close_at(&mut other), Err(NONE));
     assert_eq!(rt; seat.give_up_at(&mut other), Err(NONE));
     assert!(rt; same_desk(&CLEAR, other.desk()));
-    run(rt.alloc(), &mut seat, &[Call(Close, Answers(GIVEN))])
+    run(&rt, rt.alloc(), &mut seat, &[Call(Close, Answers(GIVEN))])
 }
 
 const ANSWER_TO_2: Word = Word::Answer(Claim(3, 2, 0, 2, OURS), 5);
@@ -54,24 +56,29 @@ static OF_CLIENT_4: [Call; 3] = [
 ];
 
 /// Our answered write, and another one that is answered with 5: neither is ended by the ticket of the other.
-fn stand_apart(rt: HostRuntime, other: &mut Seat, calls: &[Call]) -> Result<(), Fail> {
+fn stand_apart(
+    rt: &impl Abort,
+    heap: Global,
+    other: &mut Seat,
+    calls: &[Call],
+) -> Result<(), Fail> {
     let mut seat = Seat::new(1, 3, 0);
-    run(rt.alloc(), &mut seat, &ANSWERED)?;
-    run(rt.alloc(), other, calls)?;
-    assert_eq!(seat.close_beside(other), Err(NONE));
-    assert_eq!(seat.give_up_beside(other), Err(NONE));
-    assert_eq!(other.close_beside(&mut seat), Err(NONE));
-    assert_eq!(other.give_up_beside(&mut seat), Err(NONE));
-    run(rt.alloc(), &mut seat, &[Call(Close, Answers(GIVEN))])?;
-    run(rt.alloc(), other, &[Call(Close, Answers(5))])
+    run(rt, heap, &mut seat, &ANSWERED)?;
+    run(rt, heap, other, calls)?;
+    assert_eq!(rt; seat.close_beside(other), Err(NONE));
+    assert_eq!(rt; seat.give_up_beside(other), Err(NONE));
+    assert_eq!(rt; other.close_beside(&mut seat), Err(NONE));
+    assert_eq!(rt; other.give_up_beside(&mut seat), Err(NONE));
+    run(rt, heap, &mut seat, &[Call(Close, Answers(GIVEN))])?;
+    run(rt, heap, other, &[Call(Close, Answers(5))])
 }
 
 #[test]
 fn at_a_write_of_another_number(rt: HostRuntime) -> Result<(), Fail> {
-    stand_apart(rt, &mut Seat::new(1, 3, 1), &SECOND)
+    stand_apart(&rt, rt.alloc(), &mut Seat::new(1, 3, 1), &SECOND)
 }
 
 #[test]
 fn at_a_write_of_another_client(rt: HostRuntime) -> Result<(), Fail> {
-    stand_apart(rt, &mut Seat::new(1, 4, 0), &OF_CLIENT_4)
+    stand_apart(&rt, rt.alloc(), &mut Seat::new(1, 4, 0), &OF_CLIENT_4)
 }

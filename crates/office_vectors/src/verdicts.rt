@@ -1,5 +1,5 @@
 //! The verdicts of JUDGE and of the reading's judge, at f = 1 with the replies in every order, and at f = 5.
-use crate::calls::{Call, Due, Step, makes};
+use crate::calls::{Call, Due, Step, Which, makes};
 use crate::claims::{
     ANSWER, AT_PLACE_2, AT_PLACE_9, GIVEN, GRANT, IN_ROUND_1, MARK, NONCE, OF_ANOTHER, OF_NUMBER_2,
     OF_THEIRS, OTHER_ANSWER, OTHER_READ, OURS, READ, READ_AT_2, READ_EMPTY, READ_IN_ROUND_1,
@@ -10,7 +10,7 @@ use office::Verdict;
 use office::Verdict::{Back, Catch, Certify, Clash, Done, Wait};
 use std::alloc::Global;
 use std::process::Abort;
-use std::test::*;
+use std::test::Fail;
 
 /// Replies, the verdict that they come to, and the records that it writes.
 struct Case(&'static [By], Verdict, &'static [By]);
@@ -32,22 +32,31 @@ static READING: Asking = Asking(
 fn comes_to(
     rt: &impl Abort,
     heap: Global,
+    which: Which,
     f: u8,
     asking: &Asking,
     order: &[usize],
     case: &Case,
 ) -> Result<(), Fail> {
     let mut seat = Seat::new(f, 3, 0);
-    makes(heap, &mut seat, &asking.0)?;
+    makes(rt, heap, which, &mut seat, &asking.0)?;
     for at in order {
-        assert!(rt; *at < case.0.len());
+        assert!(rt; *at < case.0.len(), "{which}");
         makes(
+            rt,
             heap,
+            which,
             &mut seat,
             &Call(Step::Take(case.0[*at]), Due::Nothing),
         )?;
     }
-    makes(heap, &mut seat, &Call(asking.1, Due::Finds(case.1, case.2)))
+    makes(
+        rt,
+        heap,
+        which,
+        &mut seat,
+        &Call(asking.1, Due::Finds(case.1, case.2)),
+    )
 }
 
 /// Every order of four replies.
@@ -78,7 +87,7 @@ static ORDERS: [[usize; 4]; 24] = [
     [3, 2, 1, 0],
 ];
 
-/// The four replies of each case come to its verdict in every order. A failure names the case and the order, counted from 0.
+/// The four replies of each case come to its verdict in every order. A failed assertion names the case and the order, counted from 0.
 fn in_every_order(
     rt: &impl Abort,
     heap: Global,
@@ -88,7 +97,7 @@ fn in_every_order(
     for (i, case) in cases.iter().enumerate() {
         assert!(rt; case.0.len() == 4);
         for (j, order) in ORDERS.iter().enumerate() {
-            comes_to(rt, heap, 1, asking, order, case).note(format_args!("case {i} in order {j}"))?;
+            comes_to(rt, heap, Which::InOrder(i, j), 1, asking, order, case)?;
         }
     }
     Ok(())
@@ -99,10 +108,10 @@ fn both_ways(rt: &impl Abort, heap: Global, asking: &Asking, cases: &[Case]) -> 
     for (i, case) in cases.iter().enumerate() {
         let count = case.0.len();
         assert!(rt; count <= 4);
-        comes_to(rt, heap, 5, asking, &[0, 1, 2, 3][..count], case).note(format_args!("case {i}"))?;
-        comes_to(rt, heap, 5, asking, &[3, 2, 1, 0][4 - count..], case).note(format_args!(
-            "case {i} from behind"
-        ))?;
+        let forward = &[0, 1, 2, 3][..count];
+        comes_to(rt, heap, Which::Case(i), 5, asking, forward, case)?;
+        let back = &[3, 2, 1, 0][4 - count..];
+        comes_to(rt, heap, Which::FromBehind(i), 5, asking, back, case)?;
     }
     Ok(())
 }
