@@ -2,6 +2,8 @@
 //!
 //! `bench_site [CALLS]` prints a checksum of the replies of each case on standard output, and the time of that many calls on
 //! standard error. bench/site.rs makes the same calls on another implementation.
+#![tactic(auto)]
+
 mod cases;
 mod desk;
 mod timing;
