@@ -1,13 +1,13 @@
 -- The outcome of each of the checks 5 to 10 on a message of a form.
-use Rattle.std.proofs.Common.{◌≡◌, ℕ, ◌+◌, ◌-◌, ◌<◌, ◌≤◌, Bool, true, false, not, ltb, leb, ◌⊎◌, List, Some, None, Ok, Err, Result, sym, refl, ap, ◌∙◌, subst, inl, inr, ⊎_elim, arith}
+use Rattle.std.proofs.Common.{◌≡◌, ℕ, ◌+◌, ◌-◌, ◌<◌, ◌≤◌, Bool, true, false, not, ltb, leb, ◌⊎◌, List, Ok, Err, sym, refl, ap, ◌∙◌, inl, inr, ⊎_elim, arith}
 use Rattle.std.proofs.lemmas.Bool.{ltb-true, ltb-false, leb-true, leb-false, not-true, not-false}
 use Rattle.record.specs.Claims.{claim_of}
 use Rattle.record.specs.declared.fields.Statement.{Statement}
 use Rattle.message.proofs.Found.{Lowest, none_never, some_lowest, found_or_never}
 use Rattle.message.proofs.Groups.{records-group, statement_group}
 use Rattle.message.proofs.Tested.{claim_alike, claim_unlike, place_alike, place_unlike, round_alike, round_unlike, claim_in_alike, claim_in_unlike, among_some, among_none}
-use Rattle.message.proofs.Verdicts.{Verdict, passed, refused, of_part, of_both}
-use Rattle.message.specs.Checks.{unlike, first_unlike, signed_among, first_again, first_unvouched, first_above, first_unordered, refuse, after, clash, agreed, clashing, distinct, vouched, reached, ordered}
+use Rattle.message.proofs.Verdicts.{Verdict, passed, of_part, of_both}
+use Rattle.message.specs.Checks.{unlike, first_unlike, signed_among, first_again, first_unvouched, first_unordered, refuse, clash, agreed, clashing, distinct, vouched, reached, ordered}
 use Rattle.message.specs.Forms.{quorum}
 use Rattle.message.specs.Laws.{claim_at, round_at, place_at, signer_at, client_at, HasForm, Group, Agrees, IsOneClaim, Again, Sealed, Above, Unordered}
 use Rattle.message.specs.Records.{records, record_at, statement_at, group, lowest}

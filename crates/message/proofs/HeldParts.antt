@@ -1,11 +1,11 @@
 -- What the parts of a message say is what the message says.
-use Rattle.std.proofs.Common.{◌≡◌, ℕ, zero, suc, ◌+◌, ◌<◌, ◌≤◌, true, false, cond, eqb, ltb, List, [], ◌∷◌, sym, refl, ap, ◌∙◌, ⊎_elim, arith}
+use Rattle.std.proofs.Common.{◌≡◌, ℕ, zero, suc, ◌+◌, ◌<◌, ◌≤◌, eqb, ltb, List, ◌∷◌, sym, refl, ap, ◌∙◌, ⊎_elim, arith}
 use Rattle.std.proofs.lemmas.Bool.{cond-true, cond-false, lt-ltb, le-ltb, cases_eq, eq-eqb, ne_eqb}
 use Rattle.record.specs.declared.fields.Statement.{Statement}
 use Rattle.message.proofs.Groups.{records-group, statement_group}
 use Rattle.message.specs.Forms.{quorum}
 use Rattle.message.specs.Records.{records, statement_at, stated, no_statement, group}
-use Rattle.message.specs.Said.{Said, resolve, round, request_of}
+use Rattle.message.specs.Said.{resolve, round, request_of}
 use Rattle.message.specs.Saying.{requests_from, requests_in, target, said_of}
 use Rattle.message.specs.Sizes.{SmallSigners, size, Readable}
 use Rattle.message.specs.declared.form.Form.{Form}

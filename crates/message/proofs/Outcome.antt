@@ -1,23 +1,22 @@
 -- All ten checks together: a message passes, or its first fault is named.
-use Rattle.std.proofs.Common.{◌≡◌, ℕ, ◌+◌, ◌*◌, ◌%◌, ◌<◌, ◌≤◌, Bool, true, false, cond, not, ◌&&◌, eqb, leb, ◌⊎◌, List, length, Some, None, Ok, Err, Option, Result, sym, refl, ap, ◌∙◌, subst, inl, inr, ⊎_elim, arith}
+use Rattle.std.proofs.Common.{◌≡◌, ℕ, ◌+◌, ◌*◌, ◌%◌, ◌<◌, ◌≤◌, Bool, true, false, cond, not, ◌&&◌, eqb, leb, List, length, Some, None, Ok, Err, Option, Result, sym, refl, ap, ◌∙◌, subst, ⊎_elim, arith}
 use Rattle.std.proofs.lemmas.Bool.{cases_lt, cases_Bool, cases_order, cond-true, cond-false, and_parts, and_from, leb-true, le-leb, eqb-true, eq-eqb, both_ways, not-true}
 use Rattle.record.specs.Ranges.{in_range}
 use Rattle.message.proofs.ByForm.{mixed_verdict, same_verdict, twice_verdict, vouched_verdict, low_verdict, order_verdict, ShownGood, ShownBad}
 use Rattle.message.proofs.FormsTold.{told, told_back, one_form}
-use Rattle.message.proofs.Found.{Lowest, none_never, some_lowest, found_or_never}
+use Rattle.message.proofs.Found.{Lowest, some_lowest, found_or_never}
 use Rattle.message.proofs.Read.{ranges}
 use Rattle.message.proofs.Signers.{site_grant, site_start}
 use Rattle.message.proofs.Verdicts.{Verdict, passed, refused}
-use Rattle.message.specs.Checks.{buffers_fit, whole, first_outside, in_fields, known_form, read_form, refuse, after, agreed, clashing, distinct, vouched, reached, ordered, certified, checks}
+use Rattle.message.specs.Checks.{buffers_fit, whole, first_outside, in_fields, known_form, read_form, after, clashing, certified, checks}
 use Rattle.message.specs.Forms.{quorum, form_of}
 use Rattle.message.specs.Laws.{signer_at, Fit, Whole, HasForm, Group, Agrees, IsOneClaim, Again, Sealed, Above, Unordered, Passed, AcceptedWhenPassed, AtRecord, Present, Before, FirstFaultNamed}
-use Rattle.message.specs.Records.{records, record_at, statement_at, lowest}
+use Rattle.message.specs.Records.{records, record_at, statement_at}
 use Rattle.message.specs.Refusals.{refusal_of_certificate}
 use Rattle.message.specs.Said.{Said}
 use Rattle.message.specs.Saying.{said_of}
 use Rattle.message.specs.declared.faults.CertificateFault.{CertificateFault}
 use Rattle.message.specs.declared.faults.CertificateFault.TheVariants.{Message, Mixed, Same, Twice, Unvouched, Low, Order}
-use Rattle.message.specs.declared.faults.MessageFault.{MessageFault}
 use Rattle.message.specs.declared.faults.MessageFault.TheVariants.{Short, Length, Kind, Field}
 use Rattle.message.specs.declared.form.Form.{Form}
 use Rattle.message.specs.declared.form.Form.TheVariants.{Write1, Read, Write2, Resolve, Round, ShowGrant, ShowCert}

@@ -1,12 +1,12 @@
 -- What checks 2 to 4 leave known.
-use Rattle.std.proofs.Common.{◌≡◌, ℕ, ◌+◌, ◌<◌, ◌≤◌, Bool, true, false, not, eqb, leb, List, length, Some, None, Ok, Err, sym, refl, ap, ◌∙◌, ⊎_elim, arith}
+use Rattle.std.proofs.Common.{◌≡◌, ℕ, ◌<◌, true, not, List, Some, None, Ok, Err, ap, ◌∙◌, arith}
 use Rattle.std.proofs.lemmas.Bool.{and_parts, leb-true, not-false, cond-true}
 use Rattle.record.specs.Ranges.{in_range}
 use Rattle.message.proofs.FormsTold.{told}
 use Rattle.message.proofs.Found.{none_never}
 use Rattle.message.proofs.Signers.{small_in_pool, small_request, small_question, small_show_grant, small_show_cert}
 use Rattle.message.specs.Checks.{whole, first_outside, in_fields, known_form, read_form}
-use Rattle.message.specs.Forms.{quorum, form_of}
+use Rattle.message.specs.Forms.{form_of}
 use Rattle.message.specs.Laws.{HasForm}
 use Rattle.message.specs.Records.{records, statement_at}
 use Rattle.message.specs.Sizes.{SmallSigners, size, Readable}

@@ -1,12 +1,11 @@
 -- What each test of a record says.
-use Rattle.std.proofs.Common.{◌≡◌, ℕ, zero, suc, ◌+◌, ◌<◌, ◌≤◌, Bool, true, false, not, ◌&&◌, ◌||◌, eqb, ◌⊎◌, List, Decides, sym, refl, ap, ◌∙◌, subst, inl, inr, ⊎_elim, arith}
-use Rattle.std.proofs.lemmas.Bool.{not-true, not-false, eqb-true, eqb-false, eq-eqb, and_parts, and_from, and_cases, or_cases, or_parts, or_left, or_right, both_ways, cases_eq}
+use Rattle.std.proofs.Common.{◌≡◌, ℕ, zero, suc, ◌<◌, true, false, eqb, List, sym, ap, ◌∙◌, ⊎_elim, arith}
+use Rattle.std.proofs.lemmas.Bool.{not-true, not-false, eqb-true, eqb-false, eq-eqb, and_parts, and_from, or_cases, or_parts, both_ways, cases_eq}
 use Rattle.record.specs.Claims.{claim_of, same_claim}
-use Rattle.record.specs.declared.fields.Claim.{Claim}
 use Rattle.record.specs.declared.fields.Statement.{Statement}
 use Rattle.record.proofs.Facts.{claims_compared}
 use Rattle.message.specs.Checks.{unlike, signed_among}
-use Rattle.message.specs.Records.{records, statement_at, group}
+use Rattle.message.specs.Records.{statement_at}
 use Rattle.message.specs.declared.agreement.Agreement.TheVariants.{OneClaim, OneClaimIn, OnePlace, OneRound}
 
 module _ (a b : Statement) where

@@ -1,5 +1,5 @@
 -- The ten checks of a message, in their order. Each looks at the whole message and names the lowest index that offends.
-use Rattle.std.specs.Prelude.{ℕ, zero, suc, ◌+◌, ◌-◌, ◌%◌, Bool, true, false, cond, not, ◌&&◌, ◌||◌, leb, List, length, Some, None, Ok, Err, Option, Result, ◌==◌, nat_le, nat_lt}
+use Rattle.std.specs.Prelude.{ℕ, zero, suc, ◌+◌, ◌-◌, ◌%◌, Bool, false, cond, not, ◌&&◌, ◌||◌, leb, List, length, Some, None, Ok, Err, Option, Result, ◌==◌, nat_le, nat_lt}
 use Rattle.record.specs.Claims.{claim_of, same_claim}
 use Rattle.record.specs.Ranges.{in_range}
 use Rattle.record.specs.declared.fields.Statement.{Statement}

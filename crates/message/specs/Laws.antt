@@ -15,7 +15,6 @@ use Rattle.message.specs.Said.{Said}
 use Rattle.message.specs.Saying.{said_of, target}
 use Rattle.message.specs.declared.faults.CertificateFault.{CertificateFault}
 use Rattle.message.specs.declared.faults.CertificateFault.TheVariants.{Message, Mixed, Same, Twice, Unvouched, Low, Order}
-use Rattle.message.specs.declared.faults.MessageFault.{MessageFault}
 use Rattle.message.specs.declared.faults.MessageFault.TheVariants.{Short, Length, Kind as No-form, Field}
 use Rattle.message.specs.declared.form.Form.{Form}
 use Rattle.message.specs.declared.form.Form.TheVariants.{Write1, Read, Write2, Resolve, Round, ShowGrant, ShowCert}

@@ -14,6 +14,8 @@
 //!
 //! What it leaves to others: whether a seal is good is the notary's question. What a site does with a message, and
 //! whether it is ready for it, is the site's; its faults are declared here, so that all have one table.
+#![tactic(auto)]
+
 pub mod agreement;
 pub mod board;
 mod by_form;

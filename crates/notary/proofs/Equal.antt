@@ -1,6 +1,6 @@
 -- Seals compared by the bits in which they differ, and a list of keys prepared one by one.
-use Rattle.std.proofs.Common.{◌≡◌, ℕ, ◌+◌, ◌<◌, Bool, true, eqb, List, [], map, length, get_or, Decides, sym, refl, ap, ◌∙◌, arith, rules, below_more}
-use lib.Bits.{bit_and, bit_or, bit_xor, or_add_and, or_zero_l, xor_add_and, xor_self}
+use Rattle.std.proofs.Common.{◌≡◌, ℕ, ◌+◌, ◌<◌, eqb, List, [], map, length, get_or, Decides, sym, ap, ◌∙◌, arith, rules, below_more}
+use lib.Bits.{bit_or, bit_xor, or_add_and, or_zero_l, xor_add_and, xor_self}
 use Rattle.std.proofs.lemmas.Nat.{and_le_l, and_le_r}
 use Rattle.std.proofs.lemmas.List.{ext_get_or, get_or-map, length-map}
 use Rattle.std.proofs.lemmas.Slice.Eq.{bytes_eq-Decides}

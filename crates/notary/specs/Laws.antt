@@ -1,5 +1,5 @@
 -- What holds of the book notary and of the keyed notary, in the users' words.
-use Rattle.std.specs.Prelude.{◌≡◌, ℕ, ◌<◌, Bool, true, List, length, Some, Decides}
+use Rattle.std.specs.Prelude.{◌≡◌, ℕ, ◌<◌, true, List, length, Some, Decides}
 use Rattle.record.specs.Layout.{statement_of}
 use Rattle.sha256.specs.Mac.{hmac_sha_256}
 use Rattle.notary.specs.Book.{entries, entry_at, in_book}

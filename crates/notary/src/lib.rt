@@ -11,6 +11,8 @@
 //!
 //! What it leaves to others: it makes no keys, keeps none secret and erases none. It does not look at whether fields are
 //! in range, at rounds or places, or at whether a record was seen before. `docs/NOTARY.md` says more.
+#![tactic(auto)]
+
 mod book;
 mod keyed;
 pub mod laws;

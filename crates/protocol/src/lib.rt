@@ -7,6 +7,8 @@
 //
 // The functions do nothing. Each names a theorem in its contract, so that the crate stands only while the theorem is
 // proved, for every kind of object. docs/PROMISE.md says the promise in plain words.
+#![tactic(auto)]
+
 ghost use Rattle.protocol.specs.Book.{QuorumsAreSigners};
 ghost use Rattle.protocol.specs.Promise.{KeepsOneBook, LivesGoOn};
 ghost use Rattle.protocol.specs.Example.{HasALife};

@@ -1,19 +1,19 @@
 -- The messages that leave the object alone are moves: WRITE-1, RESOLVE, READ and the two SHOWs.
-use Rattle.std.proofs.Common.{◌≡◌, ℕ, zero, suc, ◌+◌, ◌*◌, ◌%◌, ◌^◌, ◌<◌, ◌≤◌, Bool, true, false, cond, ◌||◌, eqb, ltb, leb, ◌⊎◌, List, [], ◌∷◌, ◌++◌, length, take, drop, Some, None, Ok, Err, Option, Result, sym, refl, ap, ◌∙◌, subst, inl, inr, ⊎_elim, arith}
-use mathlib.Core.Option.{Option as Maybe, none, some}
+use Rattle.std.proofs.Common.{◌≡◌, ℕ, suc, ◌+◌, ◌%◌, ◌^◌, ◌<◌, ◌≤◌, cond, ◌||◌, eqb, ltb, leb, List, [], ◌∷◌, length, Some, None, Ok, Err, Option, Result, sym, refl, ap, ◌∙◌, subst, inl, arith}
+use mathlib.Core.Option.{Option as Maybe, some}
 use Rattle.std.specs.Str.{bytes_eq}
 use Rattle.std.proofs.lemmas.List.{length-replicate}
 use Rattle.std.proofs.lemmas.Bool.{cond_both, leb-false}
 use Rattle.object.specs.Rules.{Rules}
 use Rattle.message.specs.declared.faults.SiteFault.{SiteFault}
-use Rattle.message.specs.declared.faults.SiteFault.TheVariants.{Wait, Old, Spent, Busy, Ahead, UsedUp}
+use Rattle.message.specs.declared.faults.SiteFault.TheVariants.{Old, Spent, Busy, Ahead, UsedUp}
 use Rattle.message.specs.declared.request.Request.{Request}
 use Rattle.record.specs.Claims.{grant, answer, start}
 use Rattle.record.specs.Limits.{highest_round}
 use Rattle.record.specs.declared.fields.Claim.{Claim as Claimed}
 use Rattle.record.specs.declared.fields.Statement.{Statement}
 use Rattle.protocol.specs.Book.{Begins, due, play}
-use Rattle.protocol.specs.Moves.{Site, standing, opened, frozen, shows, repeats_answer, repeats_start, grants, freezes}
+use Rattle.protocol.specs.Moves.{Site, standing, opened, frozen, shows, repeats_answer, grants, freezes}
 use Rattle.protocol.specs.Quorum.{Pool}
 use Rattle.protocol.specs.Words as words
 use Rattle.protocol.specs.Words.{Claim, Word, Deed, Transcript}
@@ -30,7 +30,7 @@ use Rattle.site.specs.declared.state.Settlement.{Settlement}
 use Rattle.site.specs.declared.state.Stage.TheVariants.{Open, Frozen}
 use Rattle.site.specs.declared.state.State.{State}
 use Rattle.site.proofs.Going.{due_in_bytes, Goes, goes_by, stays, Fine, by_one}
-use Rattle.site.proofs.Likeness.{told, all_told, Sized, SizedRequest, Settled, Out, no_out, an_out, Ledgered, BackedUp, Like, like_open, like_frozen, done_of}
+use Rattle.site.proofs.Likeness.{told, all_told, Sized, SizedRequest, Settled, Out, no_out, an_out, Ledgered, BackedUp, Like, like_open, like_frozen}
 use Rattle.site.proofs.Writes.{DoneOnce, done_found, still_ledgered, still_backed}
 use Rattle.site.proofs.ReadBack.{Fitting}
 

@@ -1,5 +1,5 @@
 -- A call of real bytes is a move of the protocol, or no move at all.
-use Rattle.std.proofs.Common.{◌≡◌, ℕ, zero, suc, ◌+◌, ◌^◌, ◌<◌, ◌≤◌, Bool, true, false, cond, List, [], ◌∷◌, ◌++◌, length, take, drop, Ok, Err, Result, sym, refl, ap, ◌∙◌, subst, arith}
+use Rattle.std.proofs.Common.{◌≡◌, ℕ, List, [], Ok, Err, Result, refl, subst, arith}
 use Rattle.object.specs.Rules.{Rules}
 use Rattle.message.specs.Forms.{quorum}
 use Rattle.message.specs.Records.{records}
@@ -11,10 +11,10 @@ use Rattle.protocol.specs.Moves.{Site}
 use Rattle.protocol.specs.Quorum.{Pool}
 use Rattle.protocol.specs.Words as words
 use Rattle.protocol.specs.Words.{Word, Deed, Transcript}
-use Rattle.site.specs.Call.{reply_bytes, finished, stepped, accepted}
+use Rattle.site.specs.Call.{finished, stepped, accepted}
 use Rattle.site.specs.Ledgers.{Kept}
 use Rattle.site.specs.Life.{own_words, as_answered, deeds_by, deeds}
-use Rattle.site.specs.Rules.{Outcome, step, write_1_in, resolve_in, round_in}
+use Rattle.site.specs.Rules.{Outcome, step, write_1_in, resolve_in}
 use Rattle.site.specs.declared.reply.Reply.{Reply}
 use Rattle.site.specs.declared.reply.Reply.TheVariants.{Silent, Says, Shows}
 use Rattle.site.specs.declared.state.State.{State}

@@ -1,18 +1,15 @@
 -- A WRITE-2 is a move: the stored ANSWER, or a certified write at the next place.
-use Rattle.std.proofs.Common.{◌≡◌, ℕ, zero, suc, ◌+◌, ◌*◌, ◌%◌, ◌^◌, ◌<◌, ◌≤◌, Bool, true, false, cond, eqb, ltb, leb, List, [], ◌∷◌, ◌++◌, length, take, Some, None, Ok, Err, Option, Result, sym, refl, ap, ◌∙◌, subst, arith}
-use mathlib.Core.Option.{Option as Maybe, none, some}
+use Rattle.std.proofs.Common.{◌≡◌, ℕ, suc, ◌*◌, ◌%◌, ◌^◌, eqb, List, [], ◌∷◌, length, take, Some, None, Ok, Err, Option, Result, sym, refl, ap, ◌∙◌, subst, arith}
+use mathlib.Core.Option.{none}
 use Rattle.std.proofs.lemmas.Bool.{cond_both, ltb-false, eqb-true, eqb-false}
 use Rattle.object.specs.Rules.{Rules}
 use Rattle.message.specs.Forms.{quorum}
 use Rattle.message.specs.declared.faults.SiteFault.{SiteFault}
-use Rattle.message.specs.declared.faults.SiteFault.TheVariants.{Ahead, Stale, Taken, Gap}
-use Rattle.message.specs.declared.request.Request.{Request}
 use Rattle.record.specs.Claims.{answer}
-use Rattle.record.specs.Limits.{highest_round}
 use Rattle.record.specs.declared.fields.Claim.{Claim as Claimed}
 use Rattle.record.specs.declared.fields.Statement.{Statement}
 use Rattle.protocol.specs.Book.{Begins, Certified, due, play}
-use Rattle.protocol.specs.Moves.{Site, standing, pulling, settling, opened, Move, Says, answers_again, writes_open, pulls, pulls_last, settles, settles_last, writes_in}
+use Rattle.protocol.specs.Moves.{Site, standing, pulling, settling, opened, answers_again, writes_open, pulls, pulls_last, settles, settles_last, writes_in}
 use Rattle.protocol.specs.Quorum.{Pool}
 use Rattle.protocol.specs.Words as words
 use Rattle.protocol.specs.Words.{Claim, Word, Deed, Transcript}
@@ -20,14 +17,12 @@ use Rattle.site.specs.Answers.{stored, placed}
 use Rattle.site.specs.Ledgers.{kept_bytes, noted, Kept, calls, answer_to, performed}
 use Rattle.site.specs.Life.{as_answered, then_did}
 use Rattle.site.specs.OneBook.{in_records}
-use Rattle.site.specs.Rules.{nobody_asked, moved, done, if_placed, if_fresh, written, write_2_in, settlement_of, Outcome}
+use Rattle.site.specs.Rules.{nobody_asked, moved, done, if_placed, if_fresh, written, write_2_in, settlement_of}
 use Rattle.site.specs.Settling.{last_place}
 use Rattle.site.specs.Tables.{entry}
-use Rattle.site.specs.declared.reply.Reply.TheVariants.{Says as Saying}
 use Rattle.site.specs.declared.reply.Then.{Then}
 use Rattle.site.specs.declared.reply.Then.TheVariants.{Stay, Settle, Opens}
 use Rattle.site.specs.declared.state.Ledger.{Ledger}
-use Rattle.site.specs.declared.state.Settlement.{Settlement}
 use Rattle.site.specs.declared.state.Stage.TheVariants.{Pulling, Settling}
 use Rattle.site.specs.declared.state.State.{State}
 use Rattle.site.proofs.Asking.{again, answer_fits, stored_some, told_long}
@@ -35,7 +30,6 @@ use Rattle.site.proofs.Going.{due_in_bytes, Goes, goes_by, stays, Fine, by_one}
 use Rattle.site.proofs.Likeness.{told, all_told, Sized, Repeatable, Ledgered, BackedUp, settled_list, by_settlement, no_out, Like, like_open, like_frozen, like_pulling, like_settling}
 use Rattle.site.proofs.Settlements.{sized_pending}
 use Rattle.site.proofs.Settlements as settlements
-use Rattle.site.proofs.Showing.{Keeps, keeps}
 use Rattle.site.proofs.Writes.{same_answer, noted_ledger, noted_backup, still_ledgered, still_backed}
 
 -- A claim that is placed is of the round that is due and of the next place.

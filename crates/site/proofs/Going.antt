@@ -1,6 +1,6 @@
 -- One call is one move of the protocol: what that means, and the calls that leave the state as it is.
-use Rattle.std.proofs.Common.{◌≡◌, ℕ, zero, suc, ◌+◌, ◌%◌, ◌^◌, ◌<◌, ◌≤◌, Bool, true, false, cond, eqb, List, [], ◌∷◌, ◌++◌, length, take, drop, Some, None, Ok, Err, Option, Result, sym, refl, ap, ◌∙◌, subst, arith}
-use mathlib.Core.Option.{none, some}
+use Rattle.std.proofs.Common.{◌≡◌, ℕ, ◌%◌, ◌^◌, Bool, true, false, cond, eqb, List, [], ◌∷◌, ◌++◌, length, take, drop, Ok, Err, Result, sym, refl, subst}
+use mathlib.Core.Option.{some}
 use Rattle.object.specs.Rules.{Rules, fit}
 use Rattle.message.specs.Records.{records}
 use Rattle.message.specs.declared.faults.SiteFault.{SiteFault}

@@ -1,5 +1,5 @@
 -- A group of records with different signers is a quorum.
-use Rattle.std.proofs.Common.{◌≡◌, ℕ, zero, suc, ◌+◌, ◌*◌, ◌<◌, ◌≤◌, List, [], ◌∷◌, length, sym, refl, ap, ◌∙◌, subst, arith}
+use Rattle.std.proofs.Common.{◌≡◌, ℕ, zero, suc, ◌+◌, ◌<◌, ◌≤◌, List, [], ◌∷◌, length, sym, refl, ap, subst, arith}
 use Rattle.message.specs.Forms.{quorum}
 use Rattle.message.specs.Laws.{signer_at}
 use Rattle.protocol.specs.Quorum.{Pool, sites, Quorum, In, here, there, Different, different_none, different_more}

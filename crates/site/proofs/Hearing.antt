@@ -1,15 +1,13 @@
 -- What a message that passed the checks gives to go by: sizes of its fields, certified claims, and a ROUND that passes.
-use Rattle.std.proofs.Common.{◌≡◌, ℕ, zero, suc, ◌+◌, ◌-◌, ◌*◌, ◌^◌, ◌<◌, ◌≤◌, min, Bool, true, false, cond, eqb, ◌⊎◌, List, [], ◌∷◌, ◌++◌, length, get_or, take, drop, replicate, Ok, Err, sym, refl, ap, ◌∙◌, subst, inl, inr, ⊎_elim, pow-suc, arith}
+use Rattle.std.proofs.Common.{◌≡◌, ℕ, zero, suc, ◌+◌, ◌-◌, ◌*◌, ◌^◌, ◌<◌, ◌≤◌, min, Bool, true, false, cond, eqb, List, ◌++◌, length, take, drop, replicate, Ok, sym, refl, ap, ◌∙◌, subst, inl, inr, ⊎_elim, pow-suc, arith}
 use mathlib.Core.Option.{Option as Maybe, none, some}
 use Rattle.std.proofs.ByRecursion.{All-take, All-drop}
 use Rattle.std.proofs.lemmas.List.{length-take, length-drop, take_all, take_at}
 use Rattle.std.proofs.lemmas.Bool.{cases_lt, cond-true, cond-false, eq-eqb, ne_eqb}
 use Rattle.record.proofs.Digits.{byte_at}
-use Rattle.record.specs.Claims.{claim_of}
 use Rattle.record.specs.Kinds.{kind_number}
 use Rattle.record.specs.Numbers.{number_at, bytes_at}
 use Rattle.record.specs.RoundTrip.{Bytes}
-use Rattle.record.specs.declared.fields.Claim.{Claim as Claimed}
 use Rattle.record.specs.declared.fields.Statement.{Statement}
 use Rattle.record.specs.declared.kind.Kind.TheVariants.{Grant, Start, Answer, ReadAnswer}
 use Rattle.message.specs.Checks.{checks}
@@ -21,8 +19,8 @@ use Rattle.message.specs.Saying.{said_of, target, requests_from}
 use Rattle.message.specs.declared.form.Form.{Form}
 use Rattle.message.specs.declared.form.Form.TheVariants.{Write1, Read, Write2, Resolve, Round, ShowGrant, ShowCert}
 use Rattle.message.proofs.Outcome.{accepted_when_passed}
-use Rattle.protocol.specs.Book.{Wrote, Backs, Certified, Started, Passing}
-use Rattle.protocol.specs.Quorum.{Pool, Sound, sites, Quorum}
+use Rattle.protocol.specs.Book.{Wrote, Backs, Certified, Started}
+use Rattle.protocol.specs.Quorum.{Pool, Sound, sites}
 use Rattle.protocol.specs.Words as words
 use Rattle.protocol.specs.Words.{Claim, Word, Transcript}
 use Rattle.site.specs.Ledgers.{kept_bytes}

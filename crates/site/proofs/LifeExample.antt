@@ -1,13 +1,12 @@
 -- The example's life meets the premises, and tells what it should.
-use Rattle.std.proofs.Common.{◌≡◌, ℕ, zero, suc, ◌+◌, ◌<◌, ◌≤◌, Bool, true, false, cond, ◌&&◌, ltb, ◌⊎◌, List, [], ◌∷◌, ◌++◌, length, Ok, Err, Result, sym, refl, ap, ◌∙◌, subst, inl, inr, ⊎_elim, arith}
+use Rattle.std.proofs.Common.{◌≡◌, ℕ, zero, suc, ◌<◌, ◌≤◌, Bool, true, false, ◌&&◌, ltb, List, [], ◌∷◌, Ok, Err, Result, sym, refl, ap, ◌∙◌, inl, inr, arith}
 use mathlib.Core.Option.{none, some}
 use Rattle.std.proofs.lemmas.Bool.{and_parts, ltb-true, both_ways}
 use Rattle.record.specs.Numbers.{number_at, bytes_of_number}
 use Rattle.record.specs.RoundTrip.{Bytes}
-use Rattle.record.specs.declared.fields.Statement.{Statement}
 use Rattle.message.specs.Checks.{signed_among}
 use Rattle.message.specs.Forms.{all_kind}
-use Rattle.message.specs.Records.{records, record_at, statement_at, lowest}
+use Rattle.message.specs.Records.{records, statement_at, lowest}
 use Rattle.message.specs.Said.{Said, write_1, read, write_2, resolve, round, show_grant, show_cert}
 use Rattle.message.specs.Saying.{requests_from}
 use Rattle.message.specs.declared.faults.CertificateFault.{CertificateFault}
@@ -16,9 +15,9 @@ use Rattle.protocol.specs.Book.{Begins, whole, more}
 use Rattle.protocol.specs.Quorum.{Sound}
 use Rattle.protocol.specs.Words.{Word}
 use Rattle.record.specs.Claims.{start}
-use Rattle.site.specs.Life.{Event, word_of, Setting, checked, transcript, WroteStatement}
+use Rattle.site.specs.Life.{Event, word_of, checked, transcript, WroteStatement}
 use Rattle.site.specs.LifeExample.{asks, wish, mark, granted, clash, next_round, certificate, show_first, question, show_current, at_site, to_all, life, in_a, told, HasALife}
-use Rattle.site.specs.OneBook.{EqualButSeals, Happens, WrittenBefore, RoundsAgree, Premises}
+use Rattle.site.specs.OneBook.{Happens, WrittenBefore, RoundsAgree}
 
 tells : transcript in_a life ≡ told
 unfolding number_at bytes_of_number lowest all_kind signed_among requests_from

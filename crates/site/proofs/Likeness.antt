@@ -1,10 +1,9 @@
 -- A site's state beside the protocol's: what each part of the one has to do with the other.
-use Rattle.std.proofs.Common.{◌≡◌, ℕ, zero, suc, ◌+◌, ◌*◌, ◌^◌, ◌<◌, ◌≤◌, true, List, [], ◌∷◌, length, take, set, Some, None, Option}
+use Rattle.std.proofs.Common.{◌≡◌, ℕ, ◌+◌, ◌*◌, ◌^◌, ◌<◌, ◌≤◌, true, List, [], ◌∷◌, length, take, set, Some, None, Option}
 use mathlib.Core.Option.{Option as Maybe, none, some}
 use Rattle.object.specs.Rules.{Rules, Held, held}
 use Rattle.record.specs.Limits.{highest_round}
 use Rattle.record.specs.declared.fields.Claim.{Claim as Claimed}
-use Rattle.record.specs.declared.fields.Statement.{Statement}
 use Rattle.message.specs.Forms.{quorum}
 use Rattle.message.specs.Records.{records, statement_at}
 use Rattle.message.specs.Said.{Said, write_1, read, write_2, resolve, round, show_grant, show_cert}

@@ -1,14 +1,13 @@
 -- A life of real calls is a life of the protocol: each sound site has a history, and ROUNDs agree.
-use Rattle.std.proofs.Common.{◌≡◌, ℕ, zero, suc, ◌+◌, ◌^◌, ◌<◌, ◌≤◌, Bool, true, false, cond, eqb, ◌⊎◌, List, [], ◌∷◌, length, take, Ok, Err, Result, sym, refl, ap, ◌∙◌, subst, inl, inr, ⊎_elim, arith}
+use Rattle.std.proofs.Common.{◌≡◌, ℕ, zero, suc, ◌+◌, Bool, eqb, ◌⊎◌, List, [], ◌∷◌, length, take, Ok, Err, Result, sym, refl, ap, ◌∙◌, subst, inl, inr, ⊎_elim, arith}
 use mathlib.Core.Option.{Option as Maybe, none, some}
 use Rattle.std.proofs.lemmas.Bool.{cond_both, cond-true, cond-false, eq-eqb, ne_eqb, cases_eq}
 use Rattle.object.specs.Rules.{Rules}
-use Rattle.record.specs.Limits.{highest_round}
 use Rattle.record.specs.declared.fields.Statement.{Statement}
 use Rattle.message.specs.Checks.{checks}
 use Rattle.message.specs.Forms.{quorum}
 use Rattle.message.specs.Laws.{place_at, Passed}
-use Rattle.message.specs.Records.{records, record_at, statement_at}
+use Rattle.message.specs.Records.{records, statement_at}
 use Rattle.message.specs.Said.{Said, write_1, read, write_2, resolve, round, show_grant, show_cert}
 use Rattle.message.specs.Saying.{said_of, target}
 use Rattle.message.specs.declared.faults.CertificateFault.{CertificateFault}
@@ -17,16 +16,16 @@ use Rattle.message.specs.declared.form.Form.TheVariants.{Write1, Read, Write2, R
 use Rattle.message.specs.declared.refusal.Refusal.{Refusal}
 use Rattle.message.specs.declared.request.Request.{Request}
 use Rattle.message.proofs.Outcome.{accepted_when_passed}
-use Rattle.protocol.specs.Book.{Happened, happened_now, happened_before, Wrote, Begins, whole, more}
+use Rattle.protocol.specs.Book.{Happened, happened_now, happened_before, Begins, whole, more}
 use Rattle.protocol.specs.Moves.{Site, standing, opened, History, begins, others}
 use Rattle.protocol.specs.Promise.{Agreed, Life}
 use Rattle.protocol.specs.Quorum.{Pool, Sound}
-use Rattle.protocol.specs.Words.{Claim, Question, Word, grant, answer, start, reading, Deed, answered, took, said, did, Transcript}
+use Rattle.protocol.specs.Words.{Word, grant, answer, start, reading, Deed, took, said, did, Transcript}
 use Rattle.site.specs.Call.{board_after}
 use Rattle.site.specs.Life.{Event, own_words, one_more, word_of, as_answered, deeds_by, deeds, then_did, Setting, Copy, left, copy_after, called, checked, transcript}
 use Rattle.site.specs.OneBook.{in_records, EqualButSeals, Happens, RoundsAgree, Premises}
 use Rattle.site.proofs.Calling.{call_goes}
-use Rattle.site.proofs.Going.{still_like, Goes}
+use Rattle.site.proofs.Going.{still_like}
 use Rattle.site.proofs.Hearing.{tells}
 use Rattle.site.proofs.Likeness.{Telling, Like, like_open, no_out, unsettled, no_write}
 use Rattle.site.proofs.Telling.{wrote_word}

@@ -1,5 +1,5 @@
 -- What a match on the stage and the message tells.
-use Rattle.std.proofs.Common.{◌≡◌, ℕ, cond, eqb, ◌⊎◌, List, Option, Result, sym, ap, ◌∙◌, subst, inl, inr}
+use Rattle.std.proofs.Common.{◌≡◌, ℕ, eqb, ◌⊎◌, List, Option, Result, sym, ap, ◌∙◌, subst, inl, inr}
 use Rattle.std.proofs.lemmas.Bool.{cond-true, eq-eqb}
 use Rattle.object.specs.Rules.{Rules}
 use Rattle.message.specs.Records.{stated}
@@ -14,7 +14,6 @@ use Rattle.site.specs.Answers.{taken}
 use Rattle.site.specs.Ledgers.{Kept}
 use Rattle.site.specs.Rules.{Does, then_in, if_taken, round_in, step}
 use Rattle.site.specs.declared.reply.Reply.{Reply}
-use Rattle.site.specs.declared.reply.Then.{Then}
 use Rattle.site.specs.declared.reply.Then.TheVariants.{Stay, Settle, Opens}
 use Rattle.site.specs.declared.state.Stage.{Stage}
 use Rattle.site.specs.declared.state.Stage.TheVariants.{Open, Frozen, Pulling, Settling}

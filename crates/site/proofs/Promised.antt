@@ -1,6 +1,5 @@
 -- The promise: one book, and no call that is refused as TOO FAR.
-use Rattle.std.proofs.Common.{◌≡◌, ℕ, zero, suc, ◌+◌, ◌<◌, ◌≤◌, Bool, true, false, cond, ◌||◌, eqb, ltb, leb, List, [], ◌∷◌, length, Some, None, Ok, Err, Option, Result, sym, refl, ap, ◌∙◌, subst, arith}
-use Rattle.std.specs.Str.{bytes_eq}
+use Rattle.std.proofs.Common.{◌≡◌, ℕ, Bool, cond, ◌||◌, eqb, ltb, leb, List, ◌∷◌, length, Some, None, Ok, Err, Option, Result, sym, refl, ap, ◌∙◌, subst, arith}
 use Rattle.std.proofs.lemmas.Bool.{cond_both, cond-true, cond-false, eq-eqb, ne_eqb}
 use Rattle.object.specs.Rules.{Rules}
 use Rattle.record.specs.Claims.{start}
@@ -17,23 +16,23 @@ use Rattle.message.specs.declared.faults.SiteFault.{SiteFault}
 use Rattle.message.specs.declared.faults.SiteFault.TheVariants.{Certificate, Wait, Old, Spent, Busy, Ahead, Stale, Taken, Gap, UsedUp, TooFar, Nothing}
 use Rattle.message.specs.declared.refusal.Refusal.{Refusal}
 use Rattle.message.specs.declared.request.Request.{Request}
-use Rattle.protocol.specs.Book.{Begins, whole, more, Passing, writes, round_of}
+use Rattle.protocol.specs.Book.{whole, more, Passing, writes, round_of}
 use Rattle.protocol.specs.Moves.{Site, History, round_in, writes_in}
 use Rattle.protocol.specs.Promise.{OneBook}
 use Rattle.protocol.specs.Quorum.{Pool, Sound}
 use Rattle.protocol.specs.Words.{Transcript}
 use Rattle.protocol.proofs.OneBook.{keeps_one_book}
 use Rattle.protocol.proofs.Travel.{same_writes, same_round}
-use Rattle.site.specs.Answers.{stored, room, granting, queued, placed, taken}
+use Rattle.site.specs.Answers.{stored, queued, placed, taken}
 use Rattle.site.specs.Call.{board_after, accepted, finished, stepped, Called, Leaves, call}
 use Rattle.site.specs.Ledgers.{Kept}
 use Rattle.site.specs.Life.{Event, Setting, Copy, called_at, left, copy_after, called, checked, transcript}
-use Rattle.site.specs.OneBook.{in_records, Premises, KeptPromise, PromiseKept, setting, InEveryLife}
+use Rattle.site.specs.OneBook.{in_records, PromiseKept, setting, InEveryLife}
 use Rattle.site.specs.declared.reply.Then.TheVariants.{Stay, Settle, Opens}
 use Rattle.site.specs.Rules as rules
 use Rattle.site.specs.Rules.{Turn, Outcome, if_queued, if_new, requested, write_1_in, resolve_in, refuses, says, in_stage, if_placed, if_fresh, written, write_2_in, if_taken, grant_shown, cert_shown, step}
 use Rattle.site.specs.Settling.{settled_at, or_out}
-use Rattle.site.specs.Tables.{entry, same_request}
+use Rattle.site.specs.Tables.{entry}
 use Rattle.site.specs.declared.reply.Reply.{Reply}
 use Rattle.site.specs.declared.reply.Then.{Then}
 use Rattle.site.specs.declared.state.Current.{Current}
@@ -43,7 +42,7 @@ use Rattle.site.specs.declared.state.Stage.TheVariants.{Open, Frozen, Pulling, S
 use Rattle.site.specs.declared.state.State.{State}
 use Rattle.site.proofs.Asking.{told_long}
 use Rattle.site.proofs.Likeness.{all_told, Telling, Like, like_open, like_frozen, like_pulling, like_settling}
-use Rattle.site.proofs.Living.{Alive, alive, told_by, lives, moment}
+use Rattle.site.proofs.Living.{alive, told_by, lives, moment}
 use Rattle.site.proofs.Rounding.{taken_far}
 
 -- Number 20 is TOO FAR's.

@@ -1,11 +1,11 @@
 -- What a site writes is read back as it was meant: the one record of a reply, with the answer in eight bytes.
-use Rattle.std.proofs.Common.{◌≡◌, ℕ, zero, suc, ◌+◌, ◌*◌, ◌/◌, ◌%◌, ◌^◌, ◌<◌, ◌≤◌, true, eqb, List, [], ◌∷◌, ◌++◌, length, take, drop, replicate, sym, refl, ap, ◌∙◌, subst, pow-suc, div-add-mod', arith}
-use mathlib.Core.Option.{Option, none, some}
+use Rattle.std.proofs.Common.{◌≡◌, ℕ, zero, suc, ◌+◌, ◌*◌, ◌/◌, ◌%◌, ◌^◌, ◌<◌, true, eqb, List, [], ◌∷◌, ◌++◌, length, take, drop, replicate, sym, refl, ap, ◌∙◌, pow-suc, div-add-mod', arith}
+use mathlib.Core.Option.{some}
 use Rattle.std.proofs.lemmas.List.{length-append, length-replicate, take_at, take_all}
 use Rattle.std.proofs.lemmas.Bool.{cond-true, eq-eqb}
 use Rattle.record.proofs.Digits.{length-bytes_of_number}
 use Rattle.record.proofs.RoundTrip.{written_then_read}
-use Rattle.record.specs.Layout.{statement_of, record_bytes, statement_bytes}
+use Rattle.record.specs.Layout.{statement_of, record_bytes}
 use Rattle.record.specs.Numbers.{bytes_of_number}
 use Rattle.record.specs.RoundTrip.{Fits}
 use Rattle.record.specs.declared.fields.Record.{Record}

@@ -1,5 +1,5 @@
 -- A refusal leaves the state and the object as they were.
-use Rattle.std.proofs.Common.{◌≡◌, ℕ, Bool, true, false, cond, ◌||◌, eqb, ltb, leb, List, length, Some, None, Ok, Err, Option, Result, sym, refl, ◌∙◌, subst, arith}
+use Rattle.std.proofs.Common.{◌≡◌, ℕ, Bool, true, false, cond, ◌||◌, ltb, leb, List, length, Some, None, Ok, Err, Option, Result, sym, refl, ◌∙◌, subst, arith}
 use Rattle.object.specs.Rules.{Rules}
 use Rattle.message.specs.Checks.{checks}
 use Rattle.message.specs.Forms.{quorum}
@@ -8,7 +8,7 @@ use Rattle.message.specs.declared.refusal.Refusal.{Refusal}
 use Rattle.message.specs.Said.{Said, write_1, read, write_2, resolve, round, show_grant, show_cert}
 use Rattle.message.specs.declared.faults.CertificateFault.{CertificateFault}
 use Rattle.message.specs.declared.faults.SiteFault.{SiteFault}
-use Rattle.message.specs.declared.faults.SiteFault.TheVariants.{Wait, Ahead}
+use Rattle.message.specs.declared.faults.SiteFault.TheVariants.{Ahead}
 use Rattle.message.specs.declared.request.Request.{Request}
 use Rattle.record.specs.Claims.{start}
 use Rattle.record.specs.declared.fields.Claim.{Claim}

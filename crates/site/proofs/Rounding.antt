@@ -1,7 +1,7 @@
 -- A ROUND that a site takes is a move: it strikes its last write, meets the target or falls behind it.
-use Rattle.std.proofs.Common.{◌≡◌, ℕ, zero, suc, ◌+◌, ◌<◌, ◌≤◌, Bool, true, false, cond, eqb, ltb, leb, ◌⊎◌, List, [], ◌∷◌, length, Some, None, Ok, Err, Option, Result, sym, refl, ap, ◌∙◌, subst, inl, inr, ⊎_elim, arith}
-use mathlib.Core.Option.{Option as Maybe, none, some}
-use Rattle.std.proofs.lemmas.Bool.{cond_both, cond-true, cond-false, ltb-true, ltb-false, eqb-true, eqb-false, leb-false, or_parts, eq-eqb, ne_eqb, cases_eq}
+use Rattle.std.proofs.Common.{◌≡◌, ℕ, ◌+◌, ◌<◌, ◌≤◌, Bool, false, cond, ltb, List, [], ◌∷◌, Some, None, Ok, Err, Option, Result, sym, refl, ◌∙◌, subst, ⊎_elim, arith}
+use mathlib.Core.Option.{Option as Maybe}
+use Rattle.std.proofs.lemmas.Bool.{cond_both, ltb-true, ltb-false, leb-false, eq-eqb, ne_eqb, cases_eq}
 use Rattle.object.specs.Rules.{Rules}
 use Rattle.message.specs.declared.faults.SiteFault.{SiteFault}
 use Rattle.message.specs.declared.faults.SiteFault.TheVariants.{TooFar}
@@ -15,19 +15,17 @@ use Rattle.protocol.specs.Words as words
 use Rattle.protocol.specs.Words.{Claim, Deed, Transcript}
 use Rattle.site.specs.Answers.{taken}
 use Rattle.site.specs.Ledgers.{taken_back, calls_back, Kept, restored}
-use Rattle.site.specs.Life.{then_did}
 use Rattle.site.specs.Rules.{nobody_asked, settlement_of, struck, strikes_object, begun, if_taken, round_in}
 use Rattle.site.specs.Settling.{last_place}
 use Rattle.site.specs.Tables.{tabled, no_entries}
 use Rattle.site.specs.declared.reply.Reply.{Reply}
 use Rattle.site.specs.declared.reply.Reply.TheVariants.{Silent, Says, Shows}
 use Rattle.site.specs.declared.state.Ledger.{Ledger}
-use Rattle.site.specs.declared.state.Settlement.{Settlement}
 use Rattle.site.specs.declared.state.Stage.TheVariants.{Pulling, Settling}
 use Rattle.site.specs.declared.state.State.{State}
 use Rattle.site.proofs.Asking.{told_long}
 use Rattle.site.proofs.Going.{Goes, goes_by}
-use Rattle.site.proofs.Likeness.{told, all_told, SizedTable, SizedRequests, settled_list, Ledgered, BackedUp, Replaced, Like, like_open, like_frozen, like_pulling, like_settling}
+use Rattle.site.proofs.Likeness.{told, all_told, SizedTable, SizedRequests, settled_list, Ledgered, BackedUp, Like, like_open, like_frozen, like_pulling, like_settling}
 use Rattle.site.proofs.Settlements as settlements
 use Rattle.site.proofs.Settlements.{sized_fresh, sized_pending}
 use Rattle.site.proofs.Writes.{struck_ledger, still_ledgered}

@@ -1,16 +1,15 @@
 -- READ, the two SHOWs, and the repeated START are moves that leave the state as it is.
-use Rattle.std.proofs.Common.{◌≡◌, ℕ, zero, suc, ◌+◌, ◌*◌, ◌%◌, ◌^◌, ◌<◌, ◌≤◌, Bool, true, false, cond, eqb, ◌⊎◌, List, [], ◌∷◌, ◌++◌, length, take, drop, Some, None, Ok, Err, Option, sym, refl, ap, ◌∙◌, subst, inl, inr, ⊎_elim, arith}
+use Rattle.std.proofs.Common.{◌≡◌, ℕ, zero, suc, ◌%◌, ◌^◌, ◌<◌, ◌≤◌, eqb, ◌⊎◌, List, [], ◌∷◌, ◌++◌, length, take, drop, Some, None, Ok, Option, sym, refl, ap, ◌∙◌, subst, inl, inr, ⊎_elim, arith}
 use mathlib.Core.Option.{Option as Maybe, none, some}
 use Rattle.std.proofs.lemmas.List.{take_at}
 use Rattle.std.proofs.lemmas.Bool.{cond_both, eqb-true}
 use Rattle.object.specs.Rules.{Rules}
-use Rattle.message.specs.Forms.{quorum}
 use Rattle.message.specs.Records.{records, statement_at}
-use Rattle.record.specs.Claims.{grant, read_answer, start}
+use Rattle.record.specs.Claims.{grant, start}
 use Rattle.record.specs.Limits.{highest_round}
 use Rattle.record.specs.declared.fields.Claim.{Claim as Claimed}
 use Rattle.record.specs.declared.fields.Statement.{Statement}
-use Rattle.protocol.specs.Book.{Wrote, Begins, play}
+use Rattle.protocol.specs.Book.{Begins, play}
 use Rattle.protocol.specs.Moves as moves
 use Rattle.protocol.specs.Moves.{Site, standing, pulling, settling, frozen, writes_in, last_round, Says, shows, repeats_start, reads, repeats, History, own, Shown}
 use Rattle.protocol.specs.Quorum.{Pool}
@@ -20,19 +19,17 @@ use Rattle.site.specs.Call.{certificate_bytes}
 use Rattle.site.specs.Ledgers.{Kept}
 use Rattle.site.specs.Life.{word_of, question_in, own_words, one_more, then_did}
 use Rattle.site.specs.OneBook.{in_records}
-use Rattle.site.specs.Rules.{Turn, current_round, current_place, grant_shown, cert_shown, looked}
+use Rattle.site.specs.Rules.{current_round, current_place, grant_shown, cert_shown, looked}
 use Rattle.site.specs.Settling.{settled_at, or_out}
 use Rattle.site.specs.declared.reply.Reply.TheVariants.{Says as Saying}
 use Rattle.site.specs.declared.state.Current.{Current}
-use Rattle.site.specs.declared.state.Ledger.{Ledger}
 use Rattle.site.specs.declared.state.Settlement.{Settlement}
 use Rattle.site.specs.declared.state.State.{State}
 use Rattle.site.proofs.Asking.{grant_fits, start_fits, told_long}
-use Rattle.site.proofs.Going.{still_like, Goes, stays, Fine, by_one, bytes_put}
+use Rattle.site.proofs.Going.{still_like, Goes, stays, Fine, by_one}
 use Rattle.site.proofs.Likeness.{told, all_told, Sized, SizedClaims, Settled, unsettled, by_settlement, Out, no_out, an_out, Repeatable, Latest, no_write, last_write, Ledgered, Like, like_open, like_frozen, like_pulling, like_settling}
-use Rattle.site.proofs.Settlements.{Found, settled_found}
+use Rattle.site.proofs.Settlements.{settled_found}
 use Rattle.site.proofs.Telling.{still_wrote}
-use Rattle.site.proofs.ReadBack.{Fitting}
 
 -- The grant that a site shows -----------------------------------------------------------------------------------
 

@@ -1,5 +1,5 @@
 -- What was written to outputs stands in the transcript, and stays there.
-use Rattle.std.proofs.Common.{◌≡◌, ℕ, zero, suc, ◌<◌, Bool, true, false, cond, eqb, ◌⊎◌, List, [], ◌∷◌, length, take, Ok, Err, Result, sym, refl, ap, ◌∙◌, subst, inl, inr, ⊎_elim, arith}
+use Rattle.std.proofs.Common.{◌≡◌, ℕ, zero, suc, ◌<◌, eqb, List, [], ◌∷◌, length, take, Ok, Err, Result, sym, refl, ap, ◌∙◌, subst, inl, inr, ⊎_elim, arith}
 use mathlib.Core.Option.{Option, none, some}
 use Rattle.std.proofs.lemmas.Bool.{cond_both, eqb-false, cases_eq}
 use Rattle.object.specs.Rules.{Rules}
@@ -10,10 +10,10 @@ use Rattle.message.specs.Refusals.{refusal_of}
 use Rattle.message.specs.declared.faults.CertificateFault.{CertificateFault}
 use Rattle.message.specs.declared.faults.SiteFault.TheVariants.{Certificate}
 use Rattle.message.specs.declared.refusal.Refusal.{Refusal}
-use Rattle.protocol.specs.Book.{Wrote, saying, answering, earlier, Begins, whole, more}
-use Rattle.protocol.specs.Words.{Claim, Question, Word, grant, answer, start, reading, Deed, answered, took, said, did, Transcript}
+use Rattle.protocol.specs.Book.{Wrote, saying, answering, earlier}
+use Rattle.protocol.specs.Words.{Word, grant, answer, start, reading, Deed, said, did, Transcript}
 use Rattle.site.specs.Call.{board_after, accepted, stepped}
-use Rattle.site.specs.Life.{Event, word_of, put, own_words, one_more, as_answered, deeds_by, deeds, then_did, Setting, Copy, copy_after, called, checked, transcript, WroteStatement}
+use Rattle.site.specs.Life.{Event, word_of, put, own_words, one_more, as_answered, deeds_by, deeds, then_did, Setting, copy_after, called, checked, transcript, WroteStatement}
 
 -- What was written stays written.
 pub still_wrote : {s : ℕ} {w : Word} {T : Transcript} (x : ℕ) (ds : List Deed) → Wrote s w T → Wrote s w (then_did x ds T)

@@ -1,14 +1,14 @@
 -- The ledger and the object beside a list of writes: what a write adds, and what taking it back leaves.
-use Rattle.std.proofs.Common.{◌≡◌, ℕ, zero, suc, ◌+◌, ◌-◌, ◌*◌, ◌%◌, ◌^◌, ◌<◌, ◌≤◌, Bool, true, false, cond, eqb, ◌⊎◌, List, [], ◌∷◌, length, get_or, take, set, replicate, Some, None, Option, sym, refl, ap, ◌∙◌, subst, inl, inr, ⊎_elim, arith}
+use Rattle.std.proofs.Common.{◌≡◌, ℕ, suc, ◌*◌, ◌<◌, ◌≤◌, Bool, true, false, cond, eqb, List, [], ◌∷◌, length, get_or, take, set, Some, None, Option, sym, refl, ap, ◌∙◌, subst, ⊎_elim, arith}
 use Rattle.std.proofs.lemmas.List.{length-set, length-replicate, get_or-set_same, get_or-set_other, get_or-replicate, set-set, set-get_or, get_or_past}
-use Rattle.std.proofs.lemmas.Bool.{cases_eq, cases_lt, cases_Bool}
-use Rattle.object.specs.Rules.{Rules, Held, nothing, held, fit, or_else}
+use Rattle.std.proofs.lemmas.Bool.{cases_eq, cases_lt}
+use Rattle.object.specs.Rules.{Rules, Held, held, fit, or_else}
 use Rattle.record.specs.Limits.{mark}
 use Rattle.record.specs.declared.fields.Claim.{Claim as Claimed}
 use Rattle.message.specs.Forms.{quorum}
 use Rattle.protocol.specs.Book.{Begins, whole, more, due, next, play}
 use Rattle.protocol.specs.Quorum.{Pool}
-use Rattle.protocol.specs.Words.{Claim, Deed, Transcript}
+use Rattle.protocol.specs.Words.{Deed, Transcript}
 use Rattle.site.specs.Ledgers.{kept_bytes, noted, current_client, taken_back, calls_back, Kept, calls, answer_to, performed, restored}
 use Rattle.site.specs.Life.{then_did}
 use Rattle.site.specs.Tables.{entry, no_entries}

@@ -1,14 +1,14 @@
 -- What a site refuses, and what it answers from what it has done.
-use Rattle.std.specs.Prelude.{ℕ, ◌+◌, Bool, cond, ◌||◌, List, Some, None, Ok, Err, Option, Result, ◌==◌, nat_le, nat_lt}
+use Rattle.std.specs.Prelude.{ℕ, ◌+◌, cond, ◌||◌, List, Some, None, Ok, Err, Option, Result, ◌==◌, nat_le, nat_lt}
 use Rattle.std.specs.Str.{bytes_eq}
 use Rattle.message.specs.declared.faults.SiteFault.{SiteFault}
-use Rattle.message.specs.declared.faults.SiteFault.TheVariants.{Wait, Old, Spent, Busy, Ahead, Stale, Taken, Gap, UsedUp, TooFar, Nothing}
+use Rattle.message.specs.declared.faults.SiteFault.TheVariants.{Old, Spent, Busy, Ahead, Stale, Taken, Gap, UsedUp, TooFar}
 use Rattle.message.specs.declared.request.Request.{Request}
-use Rattle.record.specs.Claims.{grant, answer}
+use Rattle.record.specs.Claims.{answer}
 use Rattle.record.specs.Limits.{highest_round}
 use Rattle.record.specs.declared.fields.Claim.{Claim}
 use Rattle.record.specs.declared.fields.Statement.{Statement}
-use Rattle.site.specs.Tables.{entry, same_request}
+use Rattle.site.specs.Tables.{same_request}
 use Rattle.site.specs.declared.state.Done.{Done}
 
 -- A request beside the client's last write: an older number is OLD, the same number and operation get the stored ANSWER,

@@ -1,12 +1,11 @@
 -- Doing a write and taking it back.
-use Rattle.std.specs.Prelude.{ℕ, ◌-◌, min, Bool, true, false, cond, ◌&&◌, List, ◌++◌, length, take, replicate, Some, None, Option, ◌==◌, slice_set}
-use Rattle.object.specs.Rules.{Rules, Held, nothing, held, fit, has, or_else}
+use Rattle.std.specs.Prelude.{ℕ, ◌-◌, min, Bool, true, false, cond, List, ◌++◌, length, take, replicate, Some, None, Option, ◌==◌, slice_set}
+use Rattle.object.specs.Rules.{Rules, Held, nothing, held, fit, or_else}
 use Rattle.record.specs.Limits.{mark}
 use Rattle.record.specs.declared.fields.Claim.{Claim}
 use Rattle.site.specs.Tables.{entry}
 use Rattle.site.specs.declared.state.Backup.{Backup}
 use Rattle.site.specs.declared.state.Current.{Current}
-use Rattle.site.specs.declared.state.Done.{Done}
 use Rattle.site.specs.declared.state.Ledger.{Ledger}
 
 -- A certificate as it is kept: its bytes, at most 880, then zeros.

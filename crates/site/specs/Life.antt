@@ -1,6 +1,6 @@
 -- Lives of real calls: any bytes, handed to any sound site of a pool, in any order; and what the sites then wrote and did,
 -- read from the bytes of messages and outputs alone.
-use Rattle.std.specs.Prelude.{◌≡◌, ℕ, zero, suc, ◌+◌, ◌<◌, Bool, true, cond, ◌⊎◌, List, [], ◌∷◌, length, take, Ok, Err, Result, ◌==◌}
+use Rattle.std.specs.Prelude.{◌≡◌, ℕ, zero, suc, ◌+◌, ◌<◌, Bool, cond, ◌⊎◌, List, [], ◌∷◌, length, take, Ok, Err, Result, ◌==◌}
 use Rattle.std.proofs.Math.Option.{Option, none, some}
 use Rattle.object.specs.Rules.{Rules, Held}
 use Rattle.record.specs.Kinds.{kind_number}

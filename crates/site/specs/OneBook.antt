@@ -1,9 +1,8 @@
 -- The promise: what holds of every life of a pool's real calls, and under which premises.
-use Rattle.std.specs.Prelude.{◌≡◌, ℕ, ◌%◌, ◌^◌, ◌<◌, ◌≤◌, Bool, true, List, [], ◌∷◌, Ok, Err, Result, ◌≢◌}
+use Rattle.std.specs.Prelude.{◌≡◌, ℕ, ◌%◌, ◌^◌, ◌<◌, Bool, true, List, [], ◌∷◌, Ok, Err, Result, ◌≢◌}
 use Rattle.std.proofs.Math.Option.{some}
 use Rattle.object.specs.Rules.{Rules, Held}
 use Rattle.record.specs.RoundTrip.{Bytes}
-use Rattle.record.specs.declared.fields.Statement.{Statement}
 use Rattle.message.specs.Records.{records, record_at, statement_at}
 use Rattle.message.specs.Said.{round}
 use Rattle.message.specs.declared.refusal.Refusal.{Refusal}

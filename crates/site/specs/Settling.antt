@@ -1,5 +1,5 @@
 -- The settlement of a round, and the claims of which a site shows its grant.
-use Rattle.std.specs.Prelude.{ℕ, ◌+◌, Bool, cond, List, [], ◌∷◌, Some, None, Option, ◌==◌, nat_lt}
+use Rattle.std.specs.Prelude.{ℕ, ◌+◌, cond, List, [], ◌∷◌, Some, None, Option, ◌==◌, nat_lt}
 use Rattle.message.specs.declared.request.Request.{Request}
 use Rattle.record.specs.Claims.{no_operation}
 use Rattle.record.specs.Limits.{mark}

@@ -3,6 +3,8 @@
 //! `specs/Rules.antt` has what a site replies to each message in each stage and what it is then, `specs/Call.antt` what a whole call does with
 //! bytes and buffers. The functions here are proved to do exactly that, for every state, every message and every buffer: a refusal changes
 //! neither state nor output. A site allocates nothing, and does no input or output of its own.
+#![tactic(auto)]
+
 mod answers;
 mod entries;
 pub mod figures;

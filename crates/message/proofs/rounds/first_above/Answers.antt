@@ -1,4 +1,4 @@
-use Rattle.std.proofs.Common.{◌≡◌, ℕ, ◌<◌, ◌≤◌, Bool, ltb, List, sym, ◌∙◌, arith}
+use Rattle.std.proofs.Common.{◌≡◌, ℕ, ◌<◌, ◌≤◌, Bool, ltb, List, ◌∙◌, arith}
 use Rattle.record.specs.declared.fields.Statement.{Statement}
 use Rattle.message.proofs.Lowest.{at_start, passed_over, stopped_at, at_end}
 use Rattle.message.specs.Records.{records, statement_at}

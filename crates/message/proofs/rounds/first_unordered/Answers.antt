@@ -1,4 +1,4 @@
-use Rattle.std.proofs.Common.{◌≡◌, ℕ, ◌-◌, ◌<◌, ◌≤◌, Bool, leb, List, sym, refl, ◌∙◌, arith}
+use Rattle.std.proofs.Common.{◌≡◌, ℕ, ◌-◌, ◌<◌, ◌≤◌, Bool, leb, List, refl, ◌∙◌, arith}
 use Rattle.record.specs.declared.fields.Statement.{Statement}
 use Rattle.message.proofs.Lowest.{passed_over, stopped_at, at_end}
 use Rattle.message.specs.Records.{records, statement_at}

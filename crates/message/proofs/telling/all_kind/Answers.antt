@@ -1,4 +1,4 @@
-use Rattle.std.proofs.Common.{◌≡◌, ℕ, ◌+◌, ◌-◌, ◌<◌, ◌≤◌, sym, ap, ◌∙◌, arith}
+use Rattle.std.proofs.Common.{◌≡◌, ◌+◌, ◌-◌, ◌<◌, ◌≤◌, sym, ap, ◌∙◌, arith}
 use Rattle.message.proofs.OneKind.{kind_passed, kind_failed, kinds_end}
 use Rattle.message.specs.Forms.{all_kind}
 use Rattle.message.proofs.telling.all_kind.Goals as goal

@@ -1,4 +1,4 @@
-use Rattle.std.proofs.Common.{◌≡◌, ℕ, ◌<◌, ◌≤◌, Bool, true, false, not, List, sym, ap, ◌∙◌, arith}
+use Rattle.std.proofs.Common.{◌≡◌, ℕ, ◌<◌, ◌≤◌, Bool, not, List, ap, ◌∙◌, arith}
 use Rattle.message.proofs.Lowest.{at_start, passed_over, stopped_at, at_end}
 use Rattle.message.specs.Records.{records, record_at}
 use Rattle.message.proofs.vouched.first_unvouched.Goals as goal

@@ -2,7 +2,6 @@ use Rattle.std.proofs.Common.{◌++◌, ap, ◌∙◌}
 use Rattle.record.specs.Layout.{statement_part}
 use Rattle.sha256.proofs.Keyed.{sealed_is_hmac}
 use Rattle.sha256.specs.Sealing.{sealed}
-use Rattle.notary.specs.Keys.{sealed_record}
 use Rattle.notary.proofs.sealing.seal_record.Goals as goal
 
 pub returns : goal.returns
