@@ -1,5 +1,5 @@
 -- The bytes of a move.
-use Rattle.std.proofs.Common.{◌≡◌, ℕ, List, [], ◌∷◌, ◌++◌, get_or, replicate}
+use Rattle.std.proofs.Common.{◌≡◌, ℕ, List, ◌∷◌, get_or, replicate}
 use Rattle.record.specs.Numbers.{bytes_of_number}
 use Rattle.console.specs.Deeds.{operation_of}
 use Rattle.console.specs.declared.deed.Deed.TheVariants.{Move}

@@ -1,5 +1,5 @@
 -- The operations that words stand for.
-use Rattle.std.specs.Prelude.{ℕ, List, [], ◌∷◌, ◌++◌, replicate}
+use Rattle.std.specs.Prelude.{ℕ, List, ◌∷◌, ◌++◌, replicate}
 use Rattle.record.specs.Numbers.{bytes_of_number}
 use Rattle.console.specs.declared.deed.Deed.{Deed}
 use Rattle.console.specs.declared.deed.Deed.TheVariants.{Issue, Transfer, Surrender, Title, Move, Account}

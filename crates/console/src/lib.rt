@@ -3,6 +3,8 @@
 // `register` and its sibling programs only hand arguments, input and output through; what a line asks for,
 // what is done for it and what is answered is decided here. The answers come from the objects' own calls:
 // `Bench` says so by its contracts. The wording of a line is tested, not proved.
+#![tactic(auto)]
+
 pub mod bench;
 pub mod deed;
 pub mod explain;

@@ -9,6 +9,8 @@
 //! that is let go unspent is refused when the program is proved.
 //!
 //! What it leaves to others: it sends nothing, seals nothing and makes no nonces. It allocates nothing.
+#![tactic(auto)]
+
 pub mod asking;
 mod buffers;
 pub mod desk;

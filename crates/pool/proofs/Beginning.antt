@@ -1,17 +1,15 @@
 -- A pool that begins.
-use Rattle.std.proofs.Common.{◌≡◌, ℕ, zero, suc, ◌+◌, ◌*◌, ◌<◌, ◌≤◌, Bool, true, false, cond, ◌&&◌, ltb, leb, ◌⊎◌, List, [], ◌∷◌, ◌++◌, map, length, Some, None, filter, Option, sym, refl, ap, ◌∙◌, subst, inl, inr, arith}
+use Rattle.std.proofs.Common.{◌≡◌, ℕ, zero, suc, ◌+◌, ◌*◌, ◌<◌, ◌≤◌, Bool, true, cond, ◌&&◌, ltb, leb, ◌⊎◌, List, [], ◌∷◌, ◌++◌, map, length, Some, None, filter, sym, refl, ap, ◌∙◌, subst, inl, inr, arith}
 use Rattle.std.specs.List.{slice_get}
 use Rattle.std.proofs.lemmas.List.{length_push, length-map, map_push}
 use Rattle.std.proofs.lemmas.Option.{slice_get_past}
 use Rattle.std.proofs.lemmas.Bool.{cond-true, cond-false, lt-ltb, le-ltb, le-leb, and_parts, and_from, cases_order}
 use Rattle.object.specs.Rules.{Rules, Held}
-use Rattle.protocol.specs.Quorum.{sites}
 use Rattle.site.specs.Fit.{fit_figures, fitted_f, fitted_number}
 use Rattle.site.specs.Call.{fresh}
 use Rattle.site.specs.Ledgers.{Kept, kept_of}
-use Rattle.site.specs.OneBook.{setting}
 use Rattle.pool.specs.Delivering.{fresh_view, FreshBelow, Fresh}
-use Rattle.pool.specs.Lives.{Stands, BeginsLives}
+use Rattle.pool.specs.Lives.{BeginsLives}
 use Rattle.site.specs.declared.site.Site.{Site}
 use Rattle.pool.specs.Views.{Heard, heard, View, view, views}
 use Rattle.pool.specs.declared.entry.Entry.{Entry}

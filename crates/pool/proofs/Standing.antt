@@ -1,5 +1,5 @@
 -- A pool that was handed a message goes on in every life that it is that of.
-use Rattle.std.proofs.Common.{◌≡◌, ℕ, ◌<◌, Bool, true, false, cond, eqb, ◌⊎◌, List, [], ◌∷◌, ◌++◌, length, set, Some, None, filter, Option, Result, sym, refl, ap, ◌∙◌, subst, inl, inr, append-nil, arith, length-set}
+use Rattle.std.proofs.Common.{◌≡◌, ℕ, ◌<◌, true, false, eqb, ◌⊎◌, List, [], ◌∷◌, ◌++◌, length, set, Some, filter, Result, sym, refl, ap, ◌∙◌, subst, inl, inr, append-nil, length-set}
 use Rattle.std.specs.List.{slice_get}
 use Rattle.std.proofs.lemmas.List.Elements.{filter-append}
 use Rattle.std.proofs.lemmas.Bool.{cond-true, cond-false, cond_both, eq-eqb, ne_eqb, cases_eq, both_ways}
@@ -7,10 +7,9 @@ use Rattle.object.specs.Rules.{Rules}
 use Rattle.message.specs.declared.refusal.Refusal.{Refusal}
 use Rattle.protocol.specs.Quorum.{Sound, sites}
 use Rattle.site.specs.Call.{Called}
-use Rattle.site.specs.Life.{Event, Setting, Copy, left, copy_after, called_at, called}
-use Rattle.site.specs.OneBook.{Premises, KeptPromise}
+use Rattle.site.specs.Life.{Event, Setting, left, copy_after, called}
 use Rattle.site.proofs.Promised.{promise_kept}
-use Rattle.pool.specs.Delivering.{called_by, stepped, noted, Moment, after_call, CalledAt}
+use Rattle.pool.specs.Delivering.{called_by, stepped, noted, Moment, CalledAt}
 use Rattle.pool.specs.Lives.{copied, heard_in, at_sound, Stands, with_call, Goes_on, InLives}
 use Rattle.pool.specs.Views.{Heard, View}
 use Rattle.pool.proofs.Nths.{nth-below, nth-set_same, nth-set_other}

@@ -1,5 +1,5 @@
 -- What becomes of a pool when a message is handed to one of its sites.
-use Rattle.std.specs.Prelude.{◌≡◌, ℕ, ◌+◌, ◌*◌, Bool, cond, List, [], ◌∷◌, ◌++◌, Some, None, Ok, Err, Option, Result, nat_lt, slice_set}
+use Rattle.std.specs.Prelude.{◌≡◌, ℕ, ◌+◌, ◌*◌, Bool, cond, List, [], ◌∷◌, ◌++◌, Some, None, Ok, Err, Result, nat_lt, slice_set}
 use Rattle.std.specs.List.{slice_get}
 use Rattle.object.specs.Rules.{Rules}
 use Rattle.message.specs.declared.refusal.Refusal.{Refusal}

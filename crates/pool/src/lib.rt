@@ -8,6 +8,8 @@
 //!
 //! What it leaves to others: which messages are sent and lost, and who lies. A site that is not sound is one about which
 //! nothing is said, so a caller may hand out any records that such a site could have signed.
+#![tactic(auto)]
+
 mod entry;
 mod noting;
 mod pool;

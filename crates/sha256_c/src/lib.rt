@@ -2,6 +2,8 @@
 //!
 //! A slice crosses as a pointer and then a length, and the caller keeps all memory, a `Sealer` too.
 //! Each function writes what the function of `sha256` that it calls returns, by the same definition.
+#![tactic(auto)]
+
 ghost use Rattle.std.specs.Prelude.{◌≡◌};
 ghost use Rattle.sha256.specs.Digest.{sha_256};
 ghost use Rattle.sha256.specs.Mac.{hmac_sha_256};

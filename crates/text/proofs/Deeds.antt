@@ -1,5 +1,5 @@
 -- The bytes of a move.
-use Rattle.std.proofs.Common.{◌≡◌, ℕ, List, [], ◌∷◌, ◌++◌, get_or, replicate}
+use Rattle.std.proofs.Common.{◌≡◌, ℕ, List, ◌∷◌, get_or, replicate}
 use Rattle.record.specs.Numbers.{bytes_of_number}
 use Rattle.text.specs.Deeds.{operation_of}
 use Rattle.text.specs.declared.deed.Deed.TheVariants.{Move}

@@ -2,6 +2,8 @@
 //!
 //! Hexadecimal text is read and written exactly, and an operation in words is exactly the sixteen bytes that an object
 //! is given. The wording of answers and complaints is tested, not proved.
+#![tactic(auto)]
+
 pub mod deed;
 pub mod hex;
 pub mod meaning;

@@ -1,4 +1,4 @@
-use Rattle.std.proofs.Common.{◌≡◌, ◌+◌, ◌*◌, ◌<◌, length, vec_items, sym, ap, ◌∙◌, arith}
+use Rattle.std.proofs.Common.{vec_items, ap, ◌∙◌, arith}
 use Rattle.console.specs.Hex.{hex_bytes}
 use Rattle.console.proofs.HexText.{bad_high, bad_low, good_pair, odd_end, even_end}
 use Rattle.console.proofs.hex.from_hex.Goals as goal

@@ -1,4 +1,4 @@
-use Rattle.std.proofs.Common.{ℕ, Ok, Result, sym, ap, ◌∙◌}
+use Rattle.std.proofs.Common.{ℕ, Result, sym, ap, ◌∙◌}
 use Rattle.message.specs.declared.refusal.Refusal.{Refusal}
 use Rattle.site.specs.Life.{put}
 use Rattle.pool.proofs.Handing.{filled}

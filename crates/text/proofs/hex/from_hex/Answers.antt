@@ -1,4 +1,4 @@
-use Rattle.std.proofs.Common.{◌≡◌, ◌+◌, ◌*◌, ◌<◌, length, vec_items, sym, ap, ◌∙◌, arith}
+use Rattle.std.proofs.Common.{vec_items, ap, ◌∙◌, arith}
 use Rattle.text.specs.Hex.{hex_bytes}
 use Rattle.text.proofs.HexText.{bad_high, bad_low, good_pair, odd_end, even_end}
 use Rattle.text.proofs.hex.from_hex.Goals as goal

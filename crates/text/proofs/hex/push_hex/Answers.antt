@@ -1,6 +1,6 @@
 use Rattle.std.proofs.Common.{◌≡◌, ◌/◌, ◌%◌, ◌<◌, [], ◌∷◌, length, get_or, drop, ap, ◌∙◌, arith, rules}
 use Rattle.std.proofs.lemmas.List.{at_drop_all, append-nil}
-use Rattle.text.specs.Hex.{hex_digit, hex_text}
+use Rattle.text.specs.Hex.{hex_text}
 use Rattle.text.proofs.HexText.{one_more, digit_ascii}
 use Rattle.text.proofs.hex.push_hex.Goals as goal
 

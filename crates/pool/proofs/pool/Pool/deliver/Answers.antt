@@ -1,10 +1,8 @@
-use Rattle.std.proofs.Common.{◌≡◌, ℕ, ◌<◌, ◌≤◌, List, [], ◌∷◌, ◌++◌, map, length, None, sym, refl, ap, ◌∙◌, subst, arith}
-use Rattle.std.specs.List.{slice_get}
+use Rattle.std.proofs.Common.{◌≡◌, ◌<◌, ◌≤◌, List, [], ◌∷◌, ◌++◌, map, length, sym, refl, ap, ◌∙◌, arith}
 use Rattle.std.proofs.lemmas.List.{length-map}
 use Rattle.std.proofs.lemmas.Option.{slice_get_past}
 use Rattle.site.specs.Life.{put}
-use Rattle.pool.specs.Delivering.{CalledAt}
-use Rattle.pool.specs.Views.{Heard, heard, view, views}
+use Rattle.pool.specs.Views.{heard, view}
 use Rattle.pool.specs.declared.entry.Entry.{Entry}
 use Rattle.pool.proofs.Handing.{called_there, same_heard}
 use Rattle.pool.proofs.Standing.{in_lives}

@@ -1,4 +1,4 @@
-use Rattle.std.proofs.Common.{◌≡◌, ◌+◌, ◌*◌, vec_items, vec_len}
+use Rattle.std.proofs.Common.{◌≡◌, vec_items, vec_len}
 use Rattle.site.specs.Ledgers.{kept_of}
 use Rattle.pool.specs.Delivering.{FreshBelow}
 use Rattle.pool.specs.Views.{views}
