@@ -3,6 +3,8 @@
 //! An office and the ticket of its open write are kept together in a `Seat`, which is proved to lose no ticket: the
 //! ticket that it holds is that of the open write, and one that is let go gives its write up first. The wording of
 //! what an exchange prints is tested, not proved.
+#![tactic(auto)]
+
 pub mod calls;
 pub mod network;
 pub mod people;

@@ -1,3 +1,5 @@
+#![tactic(auto)]
+
 // Tests against values that were not made by the code under test: records written out byte by byte, records
 // sealed by another implementation, every answer of both objects, and the limits at, below and above.
 #[cfg(test)]
