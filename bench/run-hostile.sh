@@ -1,11 +1,11 @@
 #!/usr/bin/env bash
 # Compares a program that plays scenarios with bench/site.rs, call by call, over hostile lives of a pool.
-# usage: bench/run-hostile.sh [SEEDS [CALLS [PROGRAM...]]]   (the program reads a scenario from standard input; `target/bin/register play` by default)
+# usage: bench/run-hostile.sh [SEEDS [CALLS [PROGRAM...]]]   (the program reads a scenario from standard input; `crates/register_pool/out/register_pool play` by default)
 cd "$(dirname "$0")/.." || exit 1
 seeds=${1:-40}
 calls=${2:-3000}
 program=("${@:3}")
-[ ${#program[@]} -gt 0 ] || program=(target/bin/register play)
+[ ${#program[@]} -gt 0 ] || program=(crates/register_pool/out/register_pool play)
 mkdir -p target
 rustc --edition 2024 -C opt-level=3 bench/site.rs -o target/site_rust || exit 1
 

@@ -4,17 +4,19 @@
 cd "$(dirname "$0")/.." || exit 1
 runs=${1:-20}
 calls=${2:-50000}
+mkdir -p target
 rustc --edition 2024 -C opt-level=3 bench/site.rs -o target/site_rust || exit 1
-rt check bench_site >&2 || exit 1
+(cd crates/bench_site && rt run >/dev/null) >&2 || exit 1
+proved=crates/bench_site/out/bench_site
 
-if ! cmp <(target/bin/bench_site 2>/dev/null) <(target/site_rust bench 2>/dev/null); then
+if ! cmp <("$proved" 2>/dev/null) <(target/site_rust bench 2>/dev/null); then
     echo "the two implementations do not reply alike" >&2
     exit 1
 fi
 times=$(mktemp)
 trap 'rm -f "$times"' EXIT
 for ((i = 0; i < runs; i++)); do
-    target/bin/bench_site "$calls" 2>&1 >/dev/null | sed 's/^/proved /' >>"$times"
+    "$proved" "$calls" 2>&1 >/dev/null | sed 's/^/proved /' >>"$times"
     target/site_rust bench "$calls" 2>&1 >/dev/null | sed 's/^/rust /' >>"$times"
 done
 # side f F NAME calls N nanoseconds T sum S

@@ -121,20 +121,20 @@ module _ (f client : ℕ) (accepts : List ℕ → Bool) (desk : Desk) (slots : L
 
   -- The sites of a quorum whose GRANTs all make one claim are a quorum of one claim.
   abbrev Makes : Claim → ℕ → Type 0
-  Makes claim j = (reply : Record) × ((slot_at slots j).filed ≡ Some reply) × (claim_of reply.statement ≡ claim)
+  Makes wanted j = (reply : Record) × ((slot_at slots j).filed ≡ Some reply) × (claim_of reply.statement ≡ wanted)
 
-  agrees : (claim : Claim) (i j : ℕ) → Makes claim i → Makes claim j → Agree claim_slots slots i j
-  agrees claim i j (a, fa, ca) (b, fb, cb) x y ex ey =
+  agrees : (wanted : Claim) (i j : ℕ) → Makes wanted i → Makes wanted j → Agree claim_slots slots i j
+  agrees wanted i j (a, fa, ca) (b, fb, cb) x y ex ey =
       let ha : x.filed ≡ Some a = ap (λ (s : Slot). s.filed) (sym (slot_there slots i x ex)) ∙ fa in
       let hb : y.filed ≡ Some b = ap (λ (s : Slot). s.filed) (sym (slot_there slots j y ey)) ∙ fb in
       ap (λ (o : Option Record). both_held one_claim o y.filed) ha
       ∙ ap (λ (o : Option Record). both_held one_claim (Some a) o) hb
       ∙ (claims_compared (claim_of a.statement) (claim_of b.statement)).1 (ca ∙ sym cb)
 
-  all_agree : (claim : Claim) (sites : List ℕ) → All (Makes claim) sites → Pairs (Agree claim_slots slots) sites
-  all_agree claim [] all = tt
-  all_agree claim (i ∷ sites) (here, all) =
-      (All-weaker (Makes claim) (Agree claim_slots slots i) (λ j there. agrees claim i j here there) sites all, all_agree claim sites all)
+  all_agree : (wanted : Claim) (sites : List ℕ) → All (Makes wanted) sites → Pairs (Agree claim_slots slots) sites
+  all_agree wanted [] all = tt
+  all_agree wanted (i ∷ sites) (here, all) =
+      (All-weaker (Makes wanted) (Agree claim_slots slots i) (λ j there. agrees wanted i j here there) sites all, all_agree wanted sites all)
 
   one_throughout : (sites : List ℕ) (claim : Claim) → PlaceQuorum (quorum f) slots sites → All (Makes claim) sites → ClaimQuorum (quorum f) slots sites
   one_throughout sites claim quorate same = record {

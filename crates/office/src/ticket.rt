@@ -31,17 +31,15 @@ impl Ticket {
     }
 
     /// Ends a ticket.
-    pub(crate) fn spend(self) {
-        let Ticket {
-            client: _,
-            number: _,
-        } = self;
+    pub(crate) fn spend(mut self) {
+        self.number = 0;
     }
 }
 
+// A write's number is at least 1. A ticket that is spent has number 0, and only such a one is let go.
 impl Drop for Ticket {
     fn drop(self)
-        requires { ⊥ }
+        requires { self.number ≡ 0 }
     {
         let Ticket {
             client: _,

@@ -18,9 +18,11 @@ invariant_of-self c =
 pub drop-before-requires : goal.drop-before-requires
 drop-before-requires c =
     let office = c.args.self.now.office in
+    absurd (
     begun_alone office.figures.client office.desk c.begin.new.self.desk c.args.operation.now c.args.output.now c.args.board.now
     c.begin.new.output c.begin.new.board c.begin.result c.in_ok-ticket.field-0 c.args.self.now.ticket c.in-Some._before
     c.begin.ensures.leaves c.in_ok-ticket.was c.args.self.now.paired (sym c.replace.ensures.value ∙ c.in-Some.is)
+    )
 
 pub returns-in_err-ticket : goal.returns-in_err-ticket
 returns-in_err-ticket c =
