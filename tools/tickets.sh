@@ -1,7 +1,7 @@
 #!/usr/bin/env bash
 # Shows that a program which forgets a ticket, spends one twice or makes one up is refused, each for that reason, and that one which
 # spends its ticket once is proved. The programs are the texts in tools/tickets/; the first line of each says what the check must say.
-# It works in a scratch folder, over the libraries that are proved in target/ already (else it proves them first, some minutes).
+# It works in a scratch folder, over the libraries as they stand here; what was proved of them on this machine is not proved again.
 set -u
 cd "$(dirname "$0")/.." || exit 1
 here=$PWD
@@ -9,14 +9,10 @@ scratch=$(mktemp -d)
 trap 'rm -rf "$scratch"' EXIT
 libraries='record sha256 notary message finder office'
 
-mkdir -p "$scratch/crates" "$scratch/target/rlib" "$scratch/target/stamp"
+mkdir -p "$scratch/crates"
 for name in $libraries; do
     grep "^$name:" crates.txt >>"$scratch/crates.txt"
     cp -r "crates/$name" "$scratch/crates/$name"
-    if [ -f "target/stamp/$name" ]; then
-        cp "target/stamp/$name" "$scratch/target/stamp/$name"
-        cp -r "target/rlib/$name.rlib" "$scratch/target/rlib/$name.rlib"
-    fi
 done
 echo 'tickets: record notary message office' >>"$scratch/crates.txt"
 mkdir -p "$scratch/crates/tickets/src"
@@ -25,7 +21,7 @@ passed=0 failed=0
 for text in "$here"/tools/tickets/*.txt; do
     name=$(basename "$text" .txt)
     cp "$text" "$scratch/crates/tickets/src/lib.rt"
-    said=$(cd "$scratch" && rt check tickets 2>&1)
+    said=$(cd "$scratch/crates/tickets" && rt check 2>&1)
     status=$?
     case $(head -n 1 "$text") in
     '// proved') [ $status -eq 0 ] && as_told=1 || as_told=0 ;;
