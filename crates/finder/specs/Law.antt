@@ -1,12 +1,12 @@
 -- What a quorum is, and which one is the best, in the words of those who ask for one.
 use Rattle.std.specs.Prelude.{◌≡◌, ℕ, ◌<◌, Bool, true, ◌⊎◌, List, [], ◌∷◌, length, Some, None, Option}
 use Rattle.finder.specs.Order.{Before}
-use Rattle.std.specs.List.{slice_get, AllByRecursion as All}
+use Rattle.std.specs.List.{slice_get, AllByRecursion}
 
 -- Holds of each two of a list, the earlier one first.
 abbrev pub Pairs : (ℕ → ℕ → Type 0) → List ℕ → Type 0
 Pairs Holds [] = Unit {0}
-Pairs Holds (i ∷ rest) = All (Holds i) rest × Pairs Holds rest
+Pairs Holds (i ∷ rest) = AllByRecursion (Holds i) rest × Pairs Holds rest
 
 -- Site i has sent a reply that counts.
 abbrev pub Sent : {R : Type 0} → (R → Bool) → List R → ℕ → Type 0
@@ -20,9 +20,9 @@ Agree {R} likened replies i j = (x y : R) → slice_get replies i ≡ Some x →
 pub record Quorum {R : Type 0} (counted : R → Bool) (likened : R → R → Bool) (replies : List R) (q : ℕ) (sites : List ℕ)
     : Type 0 where
   pub size : length sites ≡ q
-  pub known : All (λ i. i < 16) sites
+  pub known : AllByRecursion (λ i. i < 16) sites
   pub ordered : Pairs Before sites
-  pub sent : All (Sent counted replies) sites
+  pub sent : AllByRecursion (Sent counted replies) sites
   pub agree : Pairs (Agree likened replies) sites
 
 -- One list of sites is another, or is preferred to it: where they first differ, its site goes before the other's.

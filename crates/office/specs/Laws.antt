@@ -1,6 +1,6 @@
 -- Why each verdict is given, in the words of quorums. A quorum is of q different sites, each with a reply that counts, each two alike.
 use Rattle.std.specs.Prelude.{◌≡◌, ℕ, Bool, true, false, List, Some, Option, MatchOption}
-use Rattle.std.specs.List.{AllByRecursion as All}
+use Rattle.std.specs.List.{AllByRecursion}
 use Rattle.finder.specs.Law.{Quorum}
 use Rattle.record.specs.declared.fields.Record.{Record}
 use Rattle.record.specs.declared.kind.Kind.{Kind}
@@ -36,7 +36,7 @@ abbrev pub Gave : List Slot → ℕ → ℕ → Type 0
 Gave slots answer i = (reply : Record) → (slot_at slots i).filed ≡ Some reply → reply.statement.answer ≡ answer
 
 abbrev pub Answered : Kind → ℕ → List Slot → ℕ → Type 0
-Answered kind q slots answer = (sites : List ℕ) × AlikeQuorum kind q slots sites × All (Gave slots answer) sites
+Answered kind q slots answer = (sites : List ℕ) × AlikeQuorum kind q slots sites × AllByRecursion (Gave slots answer) sites
 
 -- Where the GRANTs of no quorum have even a round and place in common: CATCH over a quorum that is heard, WAIT where none is.
 abbrev pub ByHeard : ℕ → List Slot → Verdict → Type 0

@@ -1,7 +1,7 @@
 -- What the verdicts of a sound desk are worth: the bytes that they write pass at every site, an answer is that of a quorum, and the site
 -- that is named has the latest reply.
 use Rattle.std.specs.Prelude.{◌≡◌, ℕ, ◌+◌, ◌*◌, ◌<◌, ◌≤◌, Bool, true, false, List, ◌++◌, length, Ok, Option, MatchOption, ◌≢◌}
-use Rattle.std.specs.List.{AllByRecursion as All}
+use Rattle.std.specs.List.{AllByRecursion}
 use Rattle.finder.specs.Law.{Pairs}
 use Rattle.message.specs.Checks.{checks}
 use Rattle.message.specs.Forms.{quorum}
@@ -48,7 +48,7 @@ pub record Backed (f : ℕ) (accepts : List ℕ → Bool) (said : ℕ → Statem
   pub sites : List ℕ
   pub enough : length sites ≡ quorum f
   pub different : Pairs (λ i j. i ≢ j) sites
-  pub each : All (Says f accepts said) sites
+  pub each : AllByRecursion (Says f accepts said) sites
 
 -- A quorum answered the open write, at one claim.
 abbrev pub WriteConfirmed : ℕ → ℕ → (List ℕ → Bool) → Option Write → ℕ → Type 0

@@ -1,13 +1,13 @@
 -- Reading and writing are each other's inverse.
 use Rattle.std.specs.Prelude.{◌≡◌, ℕ, ◌^◌, ◌<◌, List, length}
-use Rattle.std.specs.List.{AllByRecursion as All}
+use Rattle.std.specs.List.{AllByRecursion}
 use Rattle.record.specs.Layout.{record_of, record_bytes}
 use Rattle.record.specs.declared.fields.Statement.{Statement}
 use Rattle.record.specs.declared.fields.Record.{Record}
 
 -- Each element of a list is a byte.
 abbrev pub Bytes : List ℕ → Type 0
-Bytes bytes = All (λ b. b < 256) bytes
+Bytes bytes = AllByRecursion (λ b. b < 256) bytes
 
 -- The fields of a statement fit the bytes that the layout has for them.
 pub record Fits (s : Statement) : Type 0 where
