@@ -8,7 +8,7 @@ ghost use Rattle.message.specs.Saying.{sent, requests_in};
 ghost use Rattle.site.specs.Answers.{taken as taken_at};
 ghost use Rattle.site.specs.Ledgers.{kept_of, calls, answer_to, performed, restored};
 ghost use Rattle.site.specs.OneBook.{InEveryLife};
-ghost use Rattle.site.specs.Rules.{step as step_of_lem, Does, written, struck, strikes_object, if_taken, looked};
+ghost use Rattle.site.specs.Rules.{step as step_of, Does, written, struck, strikes_object, if_taken, looked};
 ghost use Rattle.record.specs.Claims.{claim_of};
 
 use crate::answers::{placed, stored, taken};
@@ -176,7 +176,7 @@ impl<N: Notary, O: Object> Site<N, O> {
 
     /// What a site does with a message that passed the checks. The index is that of a RESOLVE's REQUEST.
     fn step(&mut self, index: usize, message: &Message<'_>) -> Result<Reply, SiteFault>
-        ensures does { Does O.Object.rules (step_of_lem O.Object.rules self.old.figures.number index self.old.state (kept_of O.Object.rules O.Object.value O.Object.before self.old.object) (sent message.now)) self.new.state (kept_of O.Object.rules O.Object.value O.Object.before self.new.object) result }
+        ensures does { Does O.Object.rules (step_of O.Object.rules self.old.figures.number index self.old.state (kept_of O.Object.rules O.Object.value O.Object.before self.old.object) (sent message.now)) self.new.state (kept_of O.Object.rules O.Object.value O.Object.before self.new.object) result }
         ensures same { (self.new.notary ≡ self.old.notary) × (self.new.figures ≡ self.old.figures) }
     {
         let site = self.figures.number;
