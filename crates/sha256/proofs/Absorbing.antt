@@ -1,6 +1,6 @@
 -- How the hash value moves from block to block.
-use Rattle.std.proofs.Common.{◌≡◌, ℕ, suc, ◌+◌, ◌/◌, ◌%◌, ◌≤◌, List, [], ◌++◌, length, take, drop, sym, refl, ap, ◌∙◌, arith}
-use Rattle.std.proofs.lemmas.List.{append-nil, append_assoc, length-append, length-take-le, take-append-drop, take_at, drop_at}
+use Rattle.std.proofs.Common.{◌≡◌, ℕ, suc, ◌+◌, ◌*◌, ◌/◌, ◌<◌, ◌≤◌, List, [], ◌++◌, length, take, drop, sym, refl, ap, ◌∙◌, arith}
+use Rattle.std.proofs.lemmas.List.{append-nil, append_assoc, length-append, length-drop, length-take-le, take-append-drop, take_at, drop-drop, drop_at}
 use Rattle.sha256.specs.Compression.{compressed}
 use Rattle.sha256.specs.Digest.{absorbed, chained}
 
@@ -49,16 +49,18 @@ absorbed_two hs first second bytes n m e =
     ∙ ap (absorbed hs) e
 
 -- one turn of the loop that takes in whole blocks
-pub absorbed_more
-    : (hs after bytes block behind from all : List ℕ)
-    → (block ≡ take 64 bytes) × (behind ≡ drop 64 bytes) × (length behind + 64 ≡ length bytes)
+pub absorbed_turn
+    : (hs after block from bytes : List ℕ) (i : ℕ)
+    → i < length bytes / 64
+    → block ≡ take 64 (drop (i * 64) bytes)
     → after ≡ compressed hs block
-    → (length bytes % 64 ≡ length all % 64)
-    × ((more : List ℕ) → absorbed hs (bytes ++ more) ≡ absorbed from (all ++ more))
-    → (length behind % 64 ≡ length all % 64)
-    × ((more : List ℕ) → absorbed after (behind ++ more) ≡ absorbed from (all ++ more))
-absorbed_more hs after bytes block behind from all (is_Block, is-behind, n) is-after (m, so_far) = (
-  omega arith,
-  λ more.
-      rw (is-after, is_Block, is-behind) (sym (absorbed_cut hs bytes more (omega arith)) ∙ so_far more),
-)
+    → ((more : List ℕ) → absorbed hs (drop (i * 64) bytes ++ more) ≡ absorbed from (bytes ++ more))
+    → (more : List ℕ)
+    → absorbed after (drop ((i + 1) * 64) bytes ++ more) ≡ absorbed from (bytes ++ more)
+absorbed_turn hs after block from bytes i within is-block is-after so_far more =
+    let rest = drop (i * 64) bytes in
+    let long : 64 ≤ length rest = omega (arith, length-drop (i * 64) bytes) in
+    let next : drop ((i + 1) * 64) bytes ≡ drop 64 rest =
+    ap (λ n. drop n bytes) {x = (i + 1) * 64} {y = i * 64 + 64} (omega arith) ∙ sym (drop-drop 64 (i * 64) bytes)
+    in
+    rw (is-after, is-block, next) (sym (absorbed_cut hs rest more long) ∙ so_far more)

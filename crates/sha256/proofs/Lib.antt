@@ -1,4 +1,5 @@
 pub mod Absorbing
+mod Chunks
 pub mod Ending
 pub mod Keyed
 pub mod Rounds

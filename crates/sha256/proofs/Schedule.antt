@@ -1,8 +1,8 @@
 -- The steps of the two loops that write the message schedule.
-use Rattle.std.proofs.Common.{◌≡◌, ℕ, suc, ◌+◌, ◌-◌, ◌<◌, ◌≤◌, List, [], ◌∷◌, ◌++◌, length, get_or, take, set, sym, ap, ◌∙◌, arith}
+use Rattle.std.proofs.Common.{◌≡◌, ℕ, suc, ◌+◌, ◌-◌, ◌*◌, ◌<◌, ◌≤◌, List, [], ◌∷◌, ◌++◌, length, get_or, take, drop, set, sym, ap, ◌∙◌, arith}
 use Rattle.std.proofs.lemmas.List.Edits.{fill_by_more}
 use Rattle.std.proofs.lemmas.List.FromFn.{fill_by_all}
-use Rattle.std.proofs.lemmas.List.{length-set, take_more_set, length-take-le, get_or-take, take_all}
+use Rattle.std.proofs.lemmas.List.{length-set, take_more_set, length-take-le, get_or-take, get_or-drop, take_all}
 use Rattle.sha256.specs.Compression.{extended, schedule_word, schedule, block_word, words_of}
 
 -- a word of the schedule depends on the words before it only
@@ -60,6 +60,27 @@ pub schedule_written
     : (ws block : List ℕ) → length ws ≡ 64 → take 64 ws ≡ extended 48 (words_of block) → ws ≡ schedule block
 unfolding schedule
 schedule_written ws block n written = sym (take_all 64 ws (omega arith)) ∙ written
+
+-- byte k of chunk t of four bytes
+byte_of_word : (block word : List ℕ) (t k : ℕ) → k < 4 → word ≡ take 4 (drop (t * 4) block) → get_or word k 0 ≡ get_or block (4 * t + k) 0
+byte_of_word block word t k h e =
+    ap (λ b. get_or b k 0) e
+    ∙ get_or-take 4 (drop (t * 4) block) k 0 h
+    ∙ get_or-drop (t * 4) block k 0
+    ∙ ap (λ n. get_or block n 0) {x = t * 4 + k} {y = 4 * t + k} (omega arith)
+
+-- the number that chunk t of four bytes writes is word t of the block
+pub word_read
+    : (block word : List ℕ) (t v : ℕ)
+    → word ≡ take 4 (drop (t * 4) block)
+    → v ≡ get_or word 0 0 * 16777216 + get_or word 1 0 * 65536 + get_or word 2 0 * 256 + get_or word 3 0
+    → v ≡ block_word block t
+word_read block word t v e is-v =
+    let first : get_or block (4 * t + 0) 0 ≡ get_or block (4 * t) 0 = ap (λ n. get_or block n 0) {x = 4 * t + 0} {y = 4 * t} (omega arith) in
+    let b₀ = byte_of_word block word t 0 (omega arith) e in
+    let b₁ = byte_of_word block word t 1 (omega arith) e in
+    let b₂ = byte_of_word block word t 2 (omega arith) e in
+    let b₃ = byte_of_word block word t 3 (omega arith) e in cc
 
 -- one more word of the block written at its place t
 pub WordsMore

@@ -9,10 +9,9 @@ pub(crate) fn absorb<'a>(words: &mut Words, bytes: &'a [u8]) -> &'a [u8]
     ensures rest { length result.now ≡ length bytes.now % 64 }
     ensures after { (more : List ℕ) → absorbed words.new (result.now ++ more) ≡ absorbed words.old (bytes.now ++ more) }
 {
-    let mut rest = bytes;
-    while let Some((block, behind)) = rest.split_first_chunk::<BLOCK_SIZE>() {
+    let (blocks, rest) = bytes.as_chunks::<BLOCK_SIZE>();
+    for block in blocks {
         compress(words, block);
-        rest = behind;
     }
     rest
 }

@@ -1,11 +1,8 @@
-use Rattle.std.proofs.Common.{◌≡◌, ℕ, ◌%◌, List, ◌++◌, length}
+-- The bytes behind the blocks taken in so far are still to come.
+use Rattle.std.proofs.Common.{◌≡◌, ℕ, ◌*◌, List, ◌++◌, drop}
 use Rattle.sha256.specs.Digest.{absorbed}
 use Rattle.sha256.proofs.blocks.absorb.Given as goal
 
 abbrev pub invariant-loop-block : goal.invariant-loop-block
 invariant-loop-block l =
-    (length l.rest % 64 ≡ length l.bytes % 64)
-    × ((more : List ℕ) → absorbed l.words (l.rest ++ more) ≡ absorbed l.initial.words (l.bytes ++ more))
-
-abbrev pub decreases-loop-block : goal.decreases-loop-block
-decreases-loop-block l = length l.rest
+    (more : List ℕ) → absorbed l.words (drop (l.block-index * 64) l.bytes ++ more) ≡ absorbed l.initial.words (l.bytes ++ more)
