@@ -5,6 +5,7 @@ mod methods;
 
 use crate::order::SITES;
 
+// An array and a count in the place of a vector, since a finder allocates nothing.
 #[derive(Clone, Copy)]
 pub struct Group {
     sites: [usize; SITES],

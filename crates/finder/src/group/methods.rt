@@ -18,11 +18,7 @@ impl Group {
     pub fn first(&self) -> Option<usize>
         ensures { result ≡ slice_get (members self.now) 0 }
     {
-        if self.count > 0 {
-            Some(self.sites[0])
-        } else {
-            None
-        }
+        self.members().first().copied()
     }
 
     // A group of nobody.
