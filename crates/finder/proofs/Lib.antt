@@ -2,4 +2,3 @@ mod Best
 mod Classes
 mod Preference
 pub mod Quorums
-mod Steps
