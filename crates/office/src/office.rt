@@ -20,6 +20,8 @@ pub struct Office<N: Notary> {
     figures: Figures,
     notary: N,
     desk: Desk,
+    // every reply that is filed is good
+    ghost sound: { Sound figures.f figures.client (N.Notary.means notary) desk },
 }
 
 impl<N: Notary> Office<N> {
@@ -28,7 +30,6 @@ impl<N: Notary> Office<N> {
         ensures figures { (result.figures.f ≡ fitted_f f client) × (result.figures.client ≡ fitted_client f client) }
         ensures desk { result.desk ≡ clear_desk 0 }
         ensures kept { result.notary ≡ notary }
-        ensures sound { Sound result.figures.f result.figures.client (N.Notary.means result.notary) result.desk }
     {
         Office::resume(f, client, notary, 0)
     }
@@ -38,7 +39,6 @@ impl<N: Notary> Office<N> {
         ensures figures { (result.figures.f ≡ fitted_f f client) × (result.figures.client ≡ fitted_client f client) }
         ensures desk { result.desk ≡ clear_desk last }
         ensures kept { result.notary ≡ notary }
-        ensures sound { Sound result.figures.f result.figures.client (N.Notary.means result.notary) result.desk }
     {
         Office {
             figures: fitted(f, client),

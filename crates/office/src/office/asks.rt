@@ -1,7 +1,6 @@
 //! BEGIN and QUERY: what an office asks the pool.
 ghost use Rattle.std.specs.Prelude.{◌≡◌, ◌≤◌, length, IfOk, OnOk};
 ghost use Rattle.office.specs.Calls.{board_after, fits_first, number_begun, if_begun, Leaves, begin_call, query_call};
-ghost use Rattle.office.specs.Filed.{Sound};
 ghost use Rattle.office.specs.Tickets.{GoodTicket};
 
 use crate::buffers::{admit, ready};
@@ -26,7 +25,6 @@ impl<N: Notary> Office<N> {
         ensures board { board.new ≡ board_after room board.old }
         ensures room { OnOk result (880 ≤ room) }
         ensures same { (self.new.notary ≡ self.old.notary) × (self.new.figures ≡ self.old.figures) }
-        ensures keeps { Sound self.old.figures.f self.old.figures.client (N.Notary.means self.old.notary) self.old.desk → Sound self.old.figures.f self.old.figures.client (N.Notary.means self.old.notary) self.new.desk }
     {
         ready(room, board)?;
         self.desk.open(operation)
@@ -42,7 +40,6 @@ impl<N: Notary> Office<N> {
         ensures leaves { Leaves (begin_call self.old.figures.client self.old.desk operation.now output.old board.old) self.new.desk output.new board.new result }
         ensures good { IfOk result (λ b. GoodTicket self.old.figures.client self.new.desk.write b.ticket) }
         ensures same { (self.new.notary ≡ self.old.notary) × (self.new.figures ≡ self.old.figures) }
-        ensures keeps { Sound self.old.figures.f self.old.figures.client (N.Notary.means self.old.notary) self.old.desk → Sound self.old.figures.f self.old.figures.client (N.Notary.means self.old.notary) self.new.desk }
     {
         let client = self.figures.client;
         let number = self.open(operation, output.len(), board)?;
@@ -68,7 +65,6 @@ impl<N: Notary> Office<N> {
         ensures leaves { Leaves (query_call self.old.figures.client self.old.desk operation.now nonce output.old board.old) self.new.desk output.new board.new result }
         ensures stays { self.new.desk.write ≡ self.old.desk.write }
         ensures same { (self.new.notary ≡ self.old.notary) × (self.new.figures ≡ self.old.figures) }
-        ensures keeps { Sound self.old.figures.f self.old.figures.client (N.Notary.means self.old.notary) self.old.desk → Sound self.old.figures.f self.old.figures.client (N.Notary.means self.old.notary) self.new.desk }
     {
         admit(output.len(), board)?;
         self.desk.ask(operation, nonce);

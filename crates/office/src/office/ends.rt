@@ -1,6 +1,5 @@
 //! CLOSE and GIVE UP: what a ticket is spent by.
 ghost use Rattle.office.specs.Calls.{close_call, give_up_call, ComesBack};
-ghost use Rattle.office.specs.Filed.{Sound};
 ghost use Rattle.office.specs.Sending.{WriteConfirmed};
 ghost use Rattle.office.specs.Tickets.{GoodTicket};
 ghost use Rattle.std.specs.Prelude.{◌≡◌, IfOk, Ok};
@@ -16,10 +15,9 @@ impl<N: Notary> Office<N> {
     pub fn close(&mut self, ticket: Ticket) -> Result<u64, Unspent>
         ensures desk { self.new.desk ≡ (close_call self.old.figures.f self.old.figures.client self.old.desk ticket).desk }
         ensures result { result ≡ (close_call self.old.figures.f self.old.figures.client self.old.desk ticket).result }
-        ensures confirmed { Sound self.old.figures.f self.old.figures.client (N.Notary.means self.old.notary) self.old.desk → IfOk result (λ a. WriteConfirmed self.old.figures.f self.old.figures.client (N.Notary.means self.old.notary) self.old.desk.write a) }
+        ensures confirmed { IfOk result (λ a. WriteConfirmed self.old.figures.f self.old.figures.client (N.Notary.means self.old.notary) self.old.desk.write a) }
         ensures back { ComesBack ticket self.old.desk self.new.desk result }
         ensures same { (self.new.notary ≡ self.old.notary) × (self.new.figures ≡ self.old.figures) }
-        ensures keeps { Sound self.old.figures.f self.old.figures.client (N.Notary.means self.old.notary) self.old.desk → Sound self.old.figures.f self.old.figures.client (N.Notary.means self.old.notary) self.new.desk }
     {
         match self
             .desk
@@ -44,7 +42,6 @@ impl<N: Notary> Office<N> {
         ensures back { ComesBack ticket self.old.desk self.new.desk result }
         ensures taken { GoodTicket self.old.figures.client self.old.desk.write ticket → result ≡ Ok tt }
         ensures same { (self.new.notary ≡ self.old.notary) × (self.new.figures ≡ self.old.figures) }
-        ensures keeps { Sound self.old.figures.f self.old.figures.client (N.Notary.means self.old.notary) self.old.desk → Sound self.old.figures.f self.old.figures.client (N.Notary.means self.old.notary) self.new.desk }
     {
         match self.desk.owns(self.figures.client, &ticket) {
             Ok(()) => {

@@ -1,7 +1,6 @@
 //! JUDGE, over the replies to the write, and over those to the question.
 ghost use Rattle.message.specs.Forms.{quorum as quorum_of};
 ghost use Rattle.office.specs.Calls.{Leaves, judge_call, judge_reading_call, judge_write};
-ghost use Rattle.office.specs.Filed.{Sound};
 ghost use Rattle.office.specs.Laws.{Warranted, ReadingWarranted, Exact, OneAnswer};
 ghost use Rattle.office.specs.Sending.{Worth, ReadingWorth};
 ghost use Rattle.record.specs.declared.kind.Kind.TheVariants.{Answer as an_answer, ReadAnswer as a_read_answer};
@@ -47,8 +46,8 @@ impl<N: Notary> Office<N> {
     pub fn judge(&self, output: &mut [u8], board: &mut [u8]) -> Result<Judged, Refusal>
         ensures leaves { Leaves (judge_call self.now.figures.f self.now.figures.client self.now.desk output.old board.old) self.now.desk output.new board.new result }
         ensures exact { IfOk result (λ j. Exact an_answer (quorum_of self.now.figures.f) self.now.desk.replies.at j.verdict) }
-        ensures only { Sound self.now.figures.f self.now.figures.client (N.Notary.means self.now.notary) self.now.desk → IfOk result (λ j. OneAnswer an_answer (quorum_of self.now.figures.f) self.now.desk.replies.at j.verdict) }
-        ensures worth { Sound self.now.figures.f self.now.figures.client (N.Notary.means self.now.notary) self.now.desk → IfOk result (λ j. Worth self.now.figures.f self.now.figures.client (N.Notary.means self.now.notary) self.now.desk j.verdict (take j.count output.new)) }
+        ensures only { IfOk result (λ j. OneAnswer an_answer (quorum_of self.now.figures.f) self.now.desk.replies.at j.verdict) }
+        ensures worth { IfOk result (λ j. Worth self.now.figures.f self.now.figures.client (N.Notary.means self.now.notary) self.now.desk j.verdict (take j.count output.new)) }
     {
         self.verdict(output, board)
     }
@@ -72,8 +71,8 @@ impl<N: Notary> Office<N> {
     pub fn judge_reading(&self, output: &[u8], board: &mut [u8]) -> Result<Judged, Refusal>
         ensures leaves { Leaves (judge_reading_call self.now.figures.f self.now.desk output.now board.old) self.now.desk output.now board.new result }
         ensures exact { IfOk result (λ j. Exact a_read_answer (quorum_of self.now.figures.f) self.now.desk.readings.at j.verdict) }
-        ensures only { Sound self.now.figures.f self.now.figures.client (N.Notary.means self.now.notary) self.now.desk → IfOk result (λ j. OneAnswer a_read_answer (quorum_of self.now.figures.f) self.now.desk.readings.at j.verdict) }
-        ensures worth { Sound self.now.figures.f self.now.figures.client (N.Notary.means self.now.notary) self.now.desk → IfOk result (λ j. ReadingWorth self.now.figures.f self.now.figures.client (N.Notary.means self.now.notary) self.now.desk j.verdict) }
+        ensures only { IfOk result (λ j. OneAnswer a_read_answer (quorum_of self.now.figures.f) self.now.desk.readings.at j.verdict) }
+        ensures worth { IfOk result (λ j. ReadingWorth self.now.figures.f self.now.figures.client (N.Notary.means self.now.notary) self.now.desk j.verdict) }
     {
         self.reading_verdict(output, board)
     }

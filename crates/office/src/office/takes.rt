@@ -1,7 +1,6 @@
 //! TAKE: the replies of the sites.
 ghost use Rattle.message.specs.Checks.{fitted as buffers_fitted, after};
 ghost use Rattle.office.specs.Calls.{board_after, fits_first, Leaves, take_call};
-ghost use Rattle.office.specs.Filed.{Sound};
 ghost use Rattle.office.specs.Taking.{lent, read_reply, vouched_reply, taken as taken_by, desk_or, done_or, in_certificate};
 ghost use Rattle.std.specs.Prelude.{◌≡◌, length};
 
@@ -46,7 +45,6 @@ impl<N: Notary> Office<N> {
         ensures board { board.new ≡ board_after room board.old }
         ensures stays { self.new.desk.write ≡ self.old.desk.write }
         ensures same { (self.new.notary ≡ self.old.notary) × (self.new.figures ≡ self.old.figures) }
-        ensures keeps { Sound self.old.figures.f self.old.figures.client (N.Notary.means self.old.notary) self.old.desk → Sound self.old.figures.f self.old.figures.client (N.Notary.means self.old.notary) self.new.desk }
     {
         let bytes = self.vouched(message, room, board)?;
         let reply = Record::read(bytes);
@@ -63,7 +61,6 @@ impl<N: Notary> Office<N> {
         ensures leaves { Leaves (take_call self.old.figures.f self.old.figures.client (N.Notary.means self.old.notary) self.old.desk message.now output.now board.old) self.new.desk output.now board.new result }
         ensures stays { self.new.desk.write ≡ self.old.desk.write }
         ensures same { (self.new.notary ≡ self.old.notary) × (self.new.figures ≡ self.old.figures) }
-        ensures keeps { Sound self.old.figures.f self.old.figures.client (N.Notary.means self.old.notary) self.old.desk → Sound self.old.figures.f self.old.figures.client (N.Notary.means self.old.notary) self.new.desk }
     {
         self.accept(message, output.len(), board)?;
         Ok(0)

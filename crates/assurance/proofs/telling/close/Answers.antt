@@ -9,8 +9,7 @@ returns g c =
       desk = known.desk;
       result = known.result;
       confirmed = known.confirmed;
-      in_book = λ sound. close_in_book g.O.Object.rules office.figures.f office.figures.client (g.N.Notary.means office.notary) office.desk c.args.ticket c.close.result known.result sound;
+      in_book = close_in_book g.O.Object.rules office.figures.f office.figures.client (g.N.Notary.means office.notary) office.desk c.args.ticket c.close.result known.result office.sound;
       back = known.back;
       same = known.same;
-      keeps = known.keeps;
     }

@@ -10,5 +10,5 @@ returns g c =
       exact = known.exact;
       only = known.only;
       worth = known.worth;
-      in_book = λ sound. judge_reading_in_book g.O.Object.rules office.figures.f office.figures.client (g.N.Notary.means office.notary) office.desk c.judge_reading.result known.exact sound;
+      in_book = judge_reading_in_book g.O.Object.rules office.figures.f office.figures.client (g.N.Notary.means office.notary) office.desk c.judge_reading.result known.exact office.sound;
     }

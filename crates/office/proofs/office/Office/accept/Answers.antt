@@ -19,14 +19,29 @@ returns g c =
     let step = taken f client accepts desk c.args.message.now in
     let filed = passed (buffers_fit c.args.room (length board)) found client desk c.in_ok-bytes.bytes.now c.in_ok-bytes.ensures.value in
     let reply = c.read-reply.ensures in
-    let after : c.accept.new.self ≡ desk_or desk (fits_first c.args.room (length board) step) = c.accept.ensures.desk ∙ ap (λ (r : Record). desk_or desk (filing client desk r)) reply ∙ ap (desk_or desk) (sym filed) in
     record {
-      desk = after;
+      desk = c.accept.ensures.desk ∙ ap (λ (r : Record). desk_or desk (filing client desk r)) reply ∙ ap (desk_or desk) (sym filed);
       result = c.accept.ensures.result ∙ ap (λ (r : Record). done_or (filing client desk r)) reply ∙ ap done_or (sym filed);
       board = c.in_ok-bytes.ensures.board;
       stays = c.accept.ensures.stays;
       same = (refl, refl);
-      keeps =
-          λ sound. sound_as f client accepts (desk_or desk (fits_first c.args.room (length board) step)) c.accept.new.self after
-          (short_sound f client accepts desk c.args.room (length board) step sound (taken_sound f client accepts desk c.args.message.now (typed_bytes c.args.message.now c.type_inv.message) sound));
+    }
+
+pub invariant_of-self : goal.invariant_of-self
+invariant_of-self g c =
+    let office = c.args.self.now in
+    let f = office.figures.f in
+    let client = office.figures.client in
+    let accepts = g.N.Notary.means office.notary in
+    let desk = office.desk in
+    let board = c.args.board.now in
+    let found = vouched_reply client accepts desk (read_reply f c.args.message.now) in
+    let step = taken f client accepts desk c.args.message.now in
+    let filed = passed (buffers_fit c.args.room (length board)) found client desk c.in_ok-bytes.bytes.now c.in_ok-bytes.ensures.value in
+    let reply = c.read-reply.ensures in
+    record {
+      sound =
+          sound_as f client accepts (desk_or desk (fits_first c.args.room (length board) step)) c.accept.new.self
+          (c.accept.ensures.desk ∙ ap (λ (r : Record). desk_or desk (filing client desk r)) reply ∙ ap (desk_or desk) (sym filed))
+          (short_sound f client accepts desk c.args.room (length board) step office.sound (taken_sound f client accepts desk c.args.message.now (typed_bytes c.args.message.now c.type_inv.message) office.sound));
     }

@@ -22,7 +22,6 @@ returns-in_err-number g c =
           c.in_err-number.field-0.0 c.from_residual.result known.number known.desk known.board (p.1 ∙ ap Err p.2);
       good = refused_made (λ (b : Begun). GoodTicket office.figures.client c.open.new.self.desk.write b.ticket) c.from_residual.result p.0 p.1;
       same = known.same;
-      keeps = known.keeps;
     }
 
 pub returns : goal.returns
@@ -46,5 +45,4 @@ returns g c =
           (ap (λ (t : Ticket). Ok record { ticket = t; count = 80 }) c.new.ensures);
       good = good_begun client office.desk c.open.new.self.desk operation number c.new.result known.desk c.new.ensures;
       same = known.same;
-      keeps = known.keeps;
     }

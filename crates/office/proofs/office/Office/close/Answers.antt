@@ -13,8 +13,17 @@ returns-in-Ok g c =
     record {
       desk = search rules;
       result = search rules;
-      confirmed = λ sound. write_confirmed f client accepts office.desk sound c.in-Ok.answer c.in-Ok.ensures.right;
+      confirmed = write_confirmed f client accepts office.desk office.sound c.in-Ok.answer c.in-Ok.ensures.right;
       back = tt;
       same = (refl, refl);
-      keeps = λ sound. sound_as f client accepts (without_write office.desk) c.end.new.self c.end.ensures (ended_sound f client accepts office.desk sound);
+    }
+
+pub invariant_of-self : goal.invariant_of-self
+invariant_of-self g c =
+    let office = c.args.self.now in
+    let f = office.figures.f in
+    let client = office.figures.client in
+    let accepts = g.N.Notary.means office.notary in
+    record {
+      sound = sound_as f client accepts (without_write office.desk) c.end.new.self c.end.ensures (ended_sound f client accepts office.desk office.sound);
     }

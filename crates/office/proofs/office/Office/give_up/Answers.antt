@@ -15,5 +15,14 @@ returns-in-Ok g c =
       back = tt;
       taken = λ _. refl;
       same = (refl, refl);
-      keeps = λ sound. sound_as f client accepts (without_write office.desk) c.end.new.self c.end.ensures (ended_sound f client accepts office.desk sound);
+    }
+
+pub invariant_of-self : goal.invariant_of-self
+invariant_of-self g c =
+    let office = c.args.self.now in
+    let f = office.figures.f in
+    let client = office.figures.client in
+    let accepts = g.N.Notary.means office.notary in
+    record {
+      sound = sound_as f client accepts (without_write office.desk) c.end.new.self c.end.ensures (ended_sound f client accepts office.desk office.sound);
     }

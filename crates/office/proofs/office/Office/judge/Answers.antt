@@ -21,8 +21,8 @@ returns g c =
       leaves = known.leaves;
       exact = made_so (λ (j : Judged). Warranted (quorum f) client desk.write slots j.verdict found) (λ (j : Judged). Exact Answer (quorum f) slots j.verdict)
           (λ j right. exact (quorum f) slots client desk.write j.verdict found right) c.verdict.result known.right;
-      only = λ sound. made_so (λ (j : Judged). Warranted (quorum f) client desk.write slots j.verdict found) (λ (j : Judged). OneAnswer Answer (quorum f) slots j.verdict)
-          (λ j right. decided f client (g.N.Notary.means office.notary) desk sound j.verdict (exact (quorum f) slots client desk.write j.verdict found right)) c.verdict.result known.right;
-      worth = λ sound. judged_worth f client (g.N.Notary.means office.notary) desk c.args.output.now c.verdict.new.output c.args.board.now c.verdict.new.board c.verdict.result
-          (few_faulty f client office.figures.fit) sound known.leaves known.right;
+      only = made_so (λ (j : Judged). Warranted (quorum f) client desk.write slots j.verdict found) (λ (j : Judged). OneAnswer Answer (quorum f) slots j.verdict)
+          (λ j right. decided f client (g.N.Notary.means office.notary) desk office.sound j.verdict (exact (quorum f) slots client desk.write j.verdict found right)) c.verdict.result known.right;
+      worth = judged_worth f client (g.N.Notary.means office.notary) desk c.args.output.now c.verdict.new.output c.args.board.now c.verdict.new.board c.verdict.result
+          (few_faulty f client office.figures.fit) office.sound known.leaves known.right;
     }

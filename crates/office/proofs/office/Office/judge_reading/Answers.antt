@@ -21,8 +21,8 @@ returns g c =
       leaves = known.leaves;
       exact = made_so (λ (j : Judged). ReadingWarranted (quorum f) slots j.verdict) (λ (j : Judged). Exact ReadAnswer (quorum f) slots j.verdict)
           (λ j right. exact_reading (quorum f) slots j.verdict right) c.reading_verdict.result known.right;
-      only = λ sound. made_so (λ (j : Judged). ReadingWarranted (quorum f) slots j.verdict) (λ (j : Judged). OneAnswer ReadAnswer (quorum f) slots j.verdict)
-          (λ j right. decided_reading f client accepts desk sound j.verdict (exact_reading (quorum f) slots j.verdict right)) c.reading_verdict.result known.right;
-      worth = λ sound. made_so (λ (j : Judged). ReadingWarranted (quorum f) slots j.verdict) (λ (j : Judged). ReadingWorth f client accepts desk j.verdict)
-          (λ j right. reading_worth f client accepts desk (few_faulty f client office.figures.fit) sound j.verdict right) c.reading_verdict.result known.right;
+      only = made_so (λ (j : Judged). ReadingWarranted (quorum f) slots j.verdict) (λ (j : Judged). OneAnswer ReadAnswer (quorum f) slots j.verdict)
+          (λ j right. decided_reading f client accepts desk office.sound j.verdict (exact_reading (quorum f) slots j.verdict right)) c.reading_verdict.result known.right;
+      worth = made_so (λ (j : Judged). ReadingWarranted (quorum f) slots j.verdict) (λ (j : Judged). ReadingWorth f client accepts desk j.verdict)
+          (λ j right. reading_worth f client accepts desk (few_faulty f client office.figures.fit) office.sound j.verdict right) c.reading_verdict.result known.right;
     }

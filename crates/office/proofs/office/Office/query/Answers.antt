@@ -29,6 +29,17 @@ returns g c =
           known.board refl;
       stays = ap (λ (d : Desk). d.write) c.ask.ensures;
       same = (refl, refl);
-      keeps = λ sound. sound_as f client accepts (with_question office.desk operation nonce) c.ask.new.self c.ask.ensures
-          (question_sound f client accepts office.desk operation nonce sound);
+    }
+
+pub invariant_of-self : goal.invariant_of-self
+invariant_of-self g c =
+    let office = c.args.self.now in
+    let operation = c.args.operation.now in
+    let nonce = c.args.nonce in
+    let f = office.figures.f in
+    let client = office.figures.client in
+    let accepts = g.N.Notary.means office.notary in
+    record {
+      sound = sound_as f client accepts (with_question office.desk operation nonce) c.ask.new.self c.ask.ensures
+          (question_sound f client accepts office.desk operation nonce office.sound);
     }

@@ -12,5 +12,13 @@ returns g c =
       figures = search rules;
       desk = c.after.ensures;
       kept = search rules;
+    }
+
+pub invariant_of-result : goal.invariant_of-result
+invariant_of-result g c =
+    let f = c.fitted.result.f in
+    let client = c.fitted.result.client in
+    let accepts = g.N.Notary.means c.args.notary in
+    record {
       sound = sound_as f client accepts (clear_desk c.args.last) c.after.result c.after.ensures (clear_sound f client accepts c.args.last);
     }

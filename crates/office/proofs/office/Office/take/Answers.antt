@@ -19,7 +19,6 @@ returns-in_err-accept g c =
           known.desk known.result known.board (p.1 ∙ ap Err p.2);
       stays = known.stays;
       same = known.same;
-      keeps = known.keeps;
     }
 
 pub returns : goal.returns
@@ -34,5 +33,4 @@ returns g c =
           known.desk known.result known.board;
       stays = known.stays;
       same = known.same;
-      keeps = known.keeps;
     }
