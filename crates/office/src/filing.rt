@@ -1,5 +1,5 @@
 //! The slots, lent as slices: read, and changed in place where a reply is filed.
-ghost use Rattle.office.specs.Slots.{filed_in, filed_among};
+ghost use Rattle.office.specs.Slots.{filed_in, filed_among, slot_at};
 ghost use Rattle.std.specs.Prelude.{◌≡◌};
 
 use crate::slots::{Slot, Slots};
@@ -13,12 +13,19 @@ fn file(slots: &mut [Slot], reply: &Record)
     let holding = Slot {
         filed: Some(*reply),
     };
-    if site >= slots.len() {
+    let Some(slot) = slots.get(site) else {
         return;
-    }
-    if holding.is_later(&slots[site]) {
+    };
+    if holding.is_later(slot) {
         slots[site] = holding;
     }
+}
+
+/// The reply that is filed of a site, if any.
+pub(crate) fn filed(slots: &[Slot], site: usize) -> Option<Record>
+    ensures { result ≡ (slot_at slots.now site).filed }
+{
+    slots.get(site)?.filed
 }
 
 impl Slots {

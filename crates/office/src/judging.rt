@@ -6,8 +6,10 @@ ghost use Rattle.office.specs.Laws.{ByHeard, ByPlace as Right-place, ByClaim as 
 ghost use Rattle.std.specs.Option.{option_map};
 
 use crate::asking::Write;
+use crate::filing::filed;
 use crate::lateness::latest;
-use crate::likeness::{Alike, Heard, OneClaim, OnePlace};
+use crate::likeness::{Heard, OfKind};
+use crate::likening::{ButSigner, OneClaim, OnePlace};
 use crate::slots::Slot;
 use crate::verdict::Verdict;
 use finder::{Group, find};
@@ -28,10 +30,7 @@ fn lead(slots: &[Slot], group: &Group) -> Statement
     let Some(site) = group.first() else {
         return NOTHING;
     };
-    if site >= slots.len() {
-        return NOTHING;
-    }
-    match &slots[site].filed {
+    match filed(slots, site) {
         Some(reply) => reply.statement,
         None => NOTHING,
     }
@@ -67,7 +66,14 @@ fn clashing(q: usize, slots: &[Slot]) -> Finding
     ensures size { Sized q (option_map members result.group) }
     ensures right { Right-place q slots.now result.verdict (option_map members result.group) }
 {
-    match find(&OnePlace {}, slots, q) {
+    match find(
+        &OfKind {
+            kind: Kind::Grant,
+            likening: OnePlace {},
+        },
+        slots,
+        q,
+    ) {
         Some(group) => Finding {
             verdict: Verdict::Clash,
             group: Some(group),
@@ -86,7 +92,14 @@ fn granted(q: usize, client: u8, write: &Option<Write>, slots: &[Slot]) -> Findi
     ensures size { Sized q (option_map members result.group) }
     ensures right { Right-claim q client write.now slots.now result.verdict (option_map members result.group) }
 {
-    let Some(group) = find(&OneClaim {}, slots, q) else {
+    let Some(group) = find(
+        &OfKind {
+            kind: Kind::Grant,
+            likening: OneClaim {},
+        },
+        slots,
+        q,
+    ) else {
         return clashing(q, slots);
     };
     let verdict = if is_ours(client, write, &lead(slots, &group).claim()) {
@@ -107,7 +120,14 @@ pub(crate) fn judge(q: usize, client: u8, write: &Option<Write>, slots: &[Slot])
     ensures size { Sized q (option_map members result.group) }
     ensures right { Warranted q client write.now slots.now result.verdict (option_map members result.group) }
 {
-    match find(&Alike { kind: Kind::Answer }, slots, q) {
+    match find(
+        &OfKind {
+            kind: Kind::Answer,
+            likening: ButSigner {},
+        },
+        slots,
+        q,
+    ) {
         Some(group) => Finding {
             verdict: Verdict::Done {
                 answer: lead(slots, &group).answer,
@@ -124,8 +144,9 @@ pub(crate) fn judge_reading(q: usize, slots: &[Slot]) -> Verdict
     ensures right { ReadingWarranted q slots.now result }
 {
     match find(
-        &Alike {
+        &OfKind {
             kind: Kind::ReadAnswer,
+            likening: ButSigner {},
         },
         slots,
         q,

@@ -5,7 +5,7 @@ ghost use Rattle.std.specs.Prelude.{◌≡◌};
 use crate::slots::Slot;
 use record::{Kind, Statement};
 
-/// By round, then by place, then an ANSWER over a GRANT.
+/// By round, then by place, then an ANSWER over a GRANT. No `Ord` says this: of other kinds neither goes over the other.
 fn later(one: &Statement, other: &Statement) -> bool
     ensures { result ≡ later_than one.now other.now }
 {
@@ -36,8 +36,8 @@ pub(crate) fn latest(slots: &[Slot]) -> usize
     ensures { result ≡ latest_of slots.now }
 {
     let mut best = 0;
-    for i in 0..slots.len() {
-        if slots[i].is_later(&slots[best]) {
+    for (i, slot) in slots.iter().enumerate() {
+        if slot.is_later(&slots[best]) {
             best = i;
         }
     }

@@ -20,6 +20,7 @@ pub mod fitting;
 mod judging;
 mod lateness;
 mod likeness;
+mod likening;
 pub mod office;
 pub mod slots;
 mod taking;

@@ -1,26 +1,19 @@
 //! The questions that are asked of the slots: which replies count, and which two are alike.
-ghost use Rattle.office.specs.Likenesses.{heard, of_kind, alike_slots, claim_slots, place_slots, any_slots, one_place, one_claim};
-ghost use Rattle.record.specs.declared.kind.Kind.TheVariants.{Grant as a_grant};
+ghost use Rattle.office.specs.Likenesses.{heard, of_kind, both_held, any_slots};
 ghost use Rattle.std.specs.Prelude.{◌≡◌};
-ghost use Rattle.record.proofs.Facts.{alike_equivalence};
-ghost use Rattle.record.specs.Claims;
-ghost use Rattle.office.specs.Alike.{held_reflexive, held_symmetric, held_transitive, claim_reflexive, claim_symmetric, claim_transitive, place_reflexive, place_symmetric, place_transitive};
+ghost use Rattle.office.specs.Alike.{held_reflexive, held_symmetric, held_transitive};
 ghost use Rattle.std.proofs.Common.{rules};
 
+use crate::likening::Likening;
 use crate::slots::Slot;
 use finder::Likeness;
-use record::{Kind, Statement};
+use record::Kind;
 
-/// Replies of a kind that are alike but for the signer.
-pub(crate) struct Alike {
+/// Replies of a kind, of which two are alike where their statements are.
+pub(crate) struct OfKind<L: Likening> {
     pub kind: Kind,
+    pub likening: L,
 }
-
-/// GRANTs of one claim.
-pub(crate) struct OneClaim {}
-
-/// GRANTs of one round and place.
-pub(crate) struct OnePlace {}
 
 /// All replies, of any kind and content.
 pub(crate) struct Heard {}
@@ -37,16 +30,16 @@ impl Slot {
     }
 }
 
-impl Likeness<Slot> for Alike {
+impl<L: Likening> Likeness<Slot> for OfKind<L> {
     ghost counted = { λ k s. of_kind k.kind s };
 
-    ghost likened = { λ _ a b. alike_slots a b };
+    ghost likened = { λ k a b. both_held (L.Likening.likened k.likening) a.filed b.filed };
 
-    ghost reflexive = { λ k x. held_reflexive Claims.alike alike_equivalence.reflexive x.filed };
+    ghost reflexive = { λ k x. held_reflexive (L.Likening.likened k.likening) (L.Likening.reflexive k.likening) x.filed };
 
-    ghost symmetric = { λ k x y. held_symmetric Claims.alike alike_equivalence.symmetric x.filed y.filed };
+    ghost symmetric = { λ k x y. held_symmetric (L.Likening.likened k.likening) (L.Likening.symmetric k.likening) x.filed y.filed };
 
-    ghost transitive = { λ k x y z. held_transitive Claims.alike alike_equivalence.transitive x.filed y.filed z.filed };
+    ghost transitive = { λ k x y z. held_transitive (L.Likening.likened k.likening) (L.Likening.transitive k.likening) x.filed y.filed z.filed };
 
     fn counts(&self, reply: &Slot) -> bool {
         reply.holds(self.kind)
@@ -54,55 +47,7 @@ impl Likeness<Slot> for Alike {
 
     fn alike(&self, one: &Slot, other: &Slot) -> bool {
         match (&one.filed, &other.filed) {
-            (Some(one), Some(other)) => one.statement.alike(&other.statement),
-            (None, None) => true,
-            _ => false,
-        }
-    }
-}
-
-impl Likeness<Slot> for OneClaim {
-    ghost counted = { λ _ s. of_kind a_grant s };
-
-    ghost likened = { λ _ a b. claim_slots a b };
-
-    ghost reflexive = { λ k x. held_reflexive one_claim claim_reflexive x.filed };
-
-    ghost symmetric = { λ k x y. held_symmetric one_claim claim_symmetric x.filed y.filed };
-
-    ghost transitive = { λ k x y z. held_transitive one_claim claim_transitive x.filed y.filed z.filed };
-
-    fn counts(&self, reply: &Slot) -> bool {
-        reply.holds(Kind::Grant)
-    }
-
-    fn alike(&self, one: &Slot, other: &Slot) -> bool {
-        match (&one.filed, &other.filed) {
-            (Some(one), Some(other)) => one.statement.claim() == other.statement.claim(),
-            (None, None) => true,
-            _ => false,
-        }
-    }
-}
-
-impl Likeness<Slot> for OnePlace {
-    ghost counted = { λ _ s. of_kind a_grant s };
-
-    ghost likened = { λ _ a b. place_slots a b };
-
-    ghost reflexive = { λ k x. held_reflexive one_place place_reflexive x.filed };
-
-    ghost symmetric = { λ k x y. held_symmetric one_place place_symmetric x.filed y.filed };
-
-    ghost transitive = { λ k x y z. held_transitive one_place place_transitive x.filed y.filed z.filed };
-
-    fn counts(&self, reply: &Slot) -> bool {
-        reply.holds(Kind::Grant)
-    }
-
-    fn alike(&self, one: &Slot, other: &Slot) -> bool {
-        match (&one.filed, &other.filed) {
-            (Some(one), Some(other)) => same_place(&one.statement, &other.statement),
+            (Some(one), Some(other)) => self.likening.likens(&one.statement, &other.statement),
             (None, None) => true,
             _ => false,
         }
@@ -127,11 +72,4 @@ impl Likeness<Slot> for Heard {
     fn alike(&self, _one: &Slot, _other: &Slot) -> bool {
         true
     }
-}
-
-/// Whether two statements are of one round and place.
-fn same_place(one: &Statement, other: &Statement) -> bool
-    ensures { result ≡ one_place one.now other.now }
-{
-    one.round == other.round && one.place == other.place
 }

@@ -4,6 +4,7 @@ ghost use Rattle.finder.specs.Members.{members};
 ghost use Rattle.office.specs.Judging.{bytes_in, records_of};
 ghost use Rattle.office.specs.Slots.{slot_at};
 
+use crate::filing::filed;
 use crate::slots::Slot;
 use finder::Group;
 use record::limits::RECORD;
@@ -20,10 +21,7 @@ pub(crate) fn put(output: &mut [u8], at: usize, bytes: &[u8; RECORD])
 fn bytes_in(slots: &[Slot], site: usize) -> [u8; RECORD]
     ensures { result ≡ bytes_in (slot_at slots.now site).filed }
 {
-    if site >= slots.len() {
-        return [0; RECORD];
-    }
-    match &slots[site].filed {
+    match filed(slots, site) {
         Some(reply) => reply.to_bytes(),
         None => [0; RECORD],
     }
@@ -36,8 +34,8 @@ pub(crate) fn write_group(slots: &[Slot], group: &Group, output: &mut [u8]) -> u
     ensures after { output.new ≡ records_of slots.now (members group.now) ++ drop (length (records_of slots.now (members group.now))) output.old }
 {
     let sites = group.members();
-    for k in 0..sites.len() {
-        put(output, RECORD * k, &bytes_in(slots, sites[k]));
+    for (k, site) in sites.iter().enumerate() {
+        put(output, RECORD * k, &bytes_in(slots, *site));
     }
     RECORD * sites.len()
 }

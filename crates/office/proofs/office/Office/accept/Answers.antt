@@ -1,4 +1,4 @@
-use Rattle.std.proofs.Common.{◌≡◌, length, sym, refl, ap, ◌∙◌}
+use Rattle.std.proofs.Common.{length, sym, refl, ap, ◌∙◌}
 use Rattle.message.specs.Checks.{buffers_fit}
 use Rattle.record.specs.declared.fields.Record.{Record}
 use Rattle.office.proofs.Keeping.{taken_sound, short_sound, sound_as, typed_bytes}
