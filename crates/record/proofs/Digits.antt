@@ -1,7 +1,9 @@
 -- Numbers written as bytes and read again.
-use Rattle.std.proofs.Common.{◌≡◌, ℕ, zero, suc, ◌+◌, ◌*◌, ◌/◌, ◌%◌, ◌^◌, ◌<◌, ◌≤◌, List, [], ◌∷◌, ◌++◌, length, get_or, take, drop, refl, append_assoc, pow-suc, div-add-mod', arith, length-append}
+use Rattle.std.proofs.Common.{◌≡◌, ℕ, zero, suc, ◌+◌, ◌*◌, ◌/◌, ◌%◌, ◌^◌, ◌<◌, ◌≤◌, List, [], ◌∷◌, ◌++◌, length, get_or, take, drop, refl, ◌∙◌, append_assoc, pow-suc, div-add-mod', arith, length-append}
+use Rattle.std.specs.Int.{from_be_bytes, to_be_bytes, w32, w64}
+use native.Mathlib.Nat.{div-div-eq-div-mul}
 use lib.Arith.{digits_div, digits_mod}
-use Rattle.std.proofs.lemmas.List.{take_more, get_or-drop, get_or-append-add, length-drop}
+use Rattle.std.proofs.lemmas.List.{take_more, get_or-drop, get_or-take, get_or-append-add, length-drop}
 use Rattle.record.specs.Numbers.{number_at, bytes_of_number, bytes_at}
 use Rattle.record.specs.RoundTrip.{Bytes}
 
@@ -58,3 +60,29 @@ read_as_written (suc size) n rest small =
     let index : 0 + size ≡ length front + 0 = omega (arith, length-bytes_of_number size (n / 256)) in
     let whole : n / 256 * 256 + low ≡ n = div-add-mod' n 256 in
     cc
+
+-- A byte of a field.
+field_byte : (at size i : ℕ) (bytes : List ℕ) → i < size → get_or (bytes_at at size bytes) i 0 ≡ get_or bytes (at + i) 0
+field_byte at size i bytes below = get_or-take size (drop at bytes) i 0 below ∙ get_or-drop at bytes i 0
+
+-- The number that the bytes of a field write is what std reads from them.
+pub number_4 : (at : ℕ) (bytes : List ℕ) → number_at at 4 bytes ≡ from_be_bytes w32 (bytes_at at 4 bytes)
+unfolding number_at
+number_4 at bytes =
+    let b = λ (i : ℕ) (h : i < 4). field_byte at 4 i bytes h in
+    omega (arith, b 0 (omega arith), b 1 (omega arith), b 2 (omega arith), b 3 (omega arith))
+
+pub number_8 : (at : ℕ) (bytes : List ℕ) → number_at at 8 bytes ≡ from_be_bytes w64 (bytes_at at 8 bytes)
+unfolding number_at
+number_8 at bytes =
+    let b = λ (i : ℕ) (h : i < 8). field_byte at 8 i bytes h in
+    omega (arith, b 0 (omega arith), b 1 (omega arith), b 2 (omega arith), b 3 (omega arith), b 4 (omega arith), b 5 (omega arith), b 6 (omega arith), b 7 (omega arith))
+
+-- The bytes of a number are those that std writes it in.
+pub written_4 : (n : ℕ) → bytes_of_number 4 n ≡ to_be_bytes w32 n
+unfolding bytes_of_number
+written_4 n = simp div-div-eq-div-mul
+
+pub written_8 : (n : ℕ) → bytes_of_number 8 n ≡ to_be_bytes w64 n
+unfolding bytes_of_number
+written_8 n = simp div-div-eq-div-mul

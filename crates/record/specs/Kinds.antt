@@ -1,6 +1,8 @@
 -- The eight kinds of record and their numbers.
-use Rattle.std.specs.Prelude.{ℕ, cond, Some, None, Option, ◌==◌}
+use Rattle.std.specs.Prelude.{ℕ, cond, Some, None, Option, Result, ◌==◌}
+use Rattle.std.specs.Option.{ok_or}
 use Rattle.record.specs.declared.kind.Kind.{Kind}
+use Rattle.record.specs.declared.kind.UnknownKind.{UnknownKind}
 use Rattle.record.specs.declared.kind.Kind.TheVariants.{Request, Grant, Question, Answer, ReadAnswer, Start, ShowGrant, ShowCert}
 
 -- The number that byte 0 of a record has for each kind.
@@ -25,3 +27,7 @@ kind_of n =
     (cond (n == 6) (Some Start)
     (cond (n == 7) (Some ShowGrant)
     (cond (n == 8) (Some ShowCert) None)))))))
+
+-- The kind that a number stands for, or the number that no kind has.
+abbrev pub known_kind : ℕ → Result Kind UnknownKind
+known_kind n = ok_or (kind_of n) (record { 0 = n })

@@ -1,11 +1,11 @@
 // Claims, and likeness.
-ghost use Rattle.record.specs.Claims.{claim_of, same_claim, alike};
+ghost use Rattle.record.specs.Claims.{claim_of, alike};
+ghost use Rattle.record.specs.Kinds.{kind_number};
 ghost use Rattle.std.specs.Str.{bytes_eq};
-ghost use Rattle.std.specs.Prelude.{◌≡◌};
-ghost use Rattle.std.specs.Cmp.Rules.{comparing};
-ghost use Rattle.std.proofs.Common.{rules};
+ghost use Rattle.std.specs.Prelude.{◌≡◌, ◌==◌};
 
 use crate::fields::{Claim, Operation, Statement};
+use crate::kind::Kind;
 
 // Whether two operations are the same sixteen bytes.
 pub fn same_operation(a: &Operation, b: &Operation) -> bool
@@ -14,22 +14,14 @@ pub fn same_operation(a: &Operation, b: &Operation) -> bool
     a == b
 }
 
-// Two claims are equal where every field is.
-impl PartialEq for Claim {
-    ghost eq = { λ a b. same_claim a b };
-
-    ghost laws = { Prim.search (comparing, rules) };
-
-    fn eq(&self, other: &Claim) -> bool {
-        self.client == other.client
-            && self.number == other.number
-            && self.round == other.round
-            && self.place == other.place
-            && same_operation(&self.operation, &other.operation)
-    }
-}
-
 impl Statement {
+    // Whether the statement is of a kind.
+    pub fn is(&self, kind: Kind) -> bool
+        ensures { result ≡ (self.now.kind == kind_number kind) }
+    {
+        self.kind == u8::from(kind)
+    }
+
     // The claim that a statement makes.
     pub fn claim(&self) -> Claim
         ensures { result ≡ claim_of self.now }
@@ -47,10 +39,10 @@ impl Statement {
     pub fn alike(&self, other: &Statement) -> bool
         ensures { result ≡ alike self.now other.now }
     {
-        self.kind == other.kind
-            && self.spare == other.spare
-            && self.claim() == other.claim()
-            && self.answer == other.answer
-            && self.nonce == other.nonce
+        *self
+            == Statement {
+                signer: self.signer,
+                ..*other
+            }
     }
 }

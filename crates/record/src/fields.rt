@@ -12,7 +12,7 @@ pub type Round = u32;
 pub type Place = u32;
 
 // What a record says: all of it but the seal.
-#[derive(Clone, Copy, Debug)]
+#[derive(Clone, Copy, PartialEq, Eq, Debug)]
 pub struct Statement {
     // byte 0; `Kind::of` says which kind it is, if any
     pub kind: u8,
@@ -34,7 +34,7 @@ pub struct Statement {
 }
 
 // A claim to a round and place in the book: what a grant promises and an answer confirms.
-#[derive(Clone, Copy, Debug)]
+#[derive(Clone, Copy, PartialEq, Eq, Debug)]
 pub struct Claim {
     pub client: u8,
     pub number: u32,
@@ -44,7 +44,7 @@ pub struct Claim {
 }
 
 // A statement with its seal.
-#[derive(Clone, Copy, Debug)]
+#[derive(Clone, Copy, PartialEq, Eq, Debug)]
 pub struct Record {
     pub statement: Statement,
     pub seal: Seal,

@@ -1,6 +1,9 @@
 // The kinds of record.
-ghost use Rattle.record.specs.Kinds.{kind_number, kind_of};
+ghost use Rattle.record.specs.Kinds.{kind_number, kind_of, known_kind};
 ghost use Rattle.std.specs.Prelude.{◌≡◌};
+
+use std::error::Error;
+use std::fmt;
 
 // What a record says, told by its first byte.
 #[derive(Clone, Copy, PartialEq, Eq, Debug)]
@@ -28,23 +31,70 @@ impl Kind {
     pub fn number(self) -> u8
         ensures { result ≡ kind_number self }
     {
-        self as u8
+        self.into()
     }
 
     // The kind that a number stands for, if any.
     pub fn of(number: u8) -> Option<Kind>
         ensures { result ≡ kind_of number }
     {
+        Kind::try_from(number).ok()
+    }
+}
+
+// A number that no kind has.
+#[derive(Clone, Copy, PartialEq, Eq, Debug)]
+pub struct UnknownKind(pub u8);
+
+// The number of a kind, which is byte 0 of its records.
+impl From<Kind> for u8 {
+    ghost from_gives = { λ kind number. number ≡ kind_number kind };
+
+    fn from(kind: Kind) -> u8 {
+        kind as u8
+    }
+}
+
+// The kind that a number stands for, if any.
+impl TryFrom<u8> for Kind {
+    type Error = UnknownKind;
+
+    ghost try_from_gives = { λ number kind. kind ≡ known_kind number };
+
+    fn try_from(number: u8) -> Result<Kind, UnknownKind> {
         match number {
-            1 => Some(Kind::Request),
-            2 => Some(Kind::Grant),
-            3 => Some(Kind::Question),
-            4 => Some(Kind::Answer),
-            5 => Some(Kind::ReadAnswer),
-            6 => Some(Kind::Start),
-            7 => Some(Kind::ShowGrant),
-            8 => Some(Kind::ShowCert),
-            _ => None,
+            1 => Ok(Kind::Request),
+            2 => Ok(Kind::Grant),
+            3 => Ok(Kind::Question),
+            4 => Ok(Kind::Answer),
+            5 => Ok(Kind::ReadAnswer),
+            6 => Ok(Kind::Start),
+            7 => Ok(Kind::ShowGrant),
+            8 => Ok(Kind::ShowCert),
+            _ => Err(UnknownKind(number)),
         }
     }
 }
+
+impl fmt::Display for Kind {
+    fn fmt<W: fmt::Write>(&self, f: &mut fmt::Formatter<W>) -> fmt::Result {
+        f.write_str(match self {
+            Kind::Request => "REQUEST",
+            Kind::Grant => "GRANT",
+            Kind::Question => "QUESTION",
+            Kind::Answer => "ANSWER",
+            Kind::ReadAnswer => "READ-ANSWER",
+            Kind::Start => "START",
+            Kind::ShowGrant => "SHOW-GRANT",
+            Kind::ShowCert => "SHOW-CERT",
+        })
+    }
+}
+
+impl fmt::Display for UnknownKind {
+    fn fmt<W: fmt::Write>(&self, f: &mut fmt::Formatter<W>) -> fmt::Result {
+        write!(f, "no kind has number {}", self.0)
+    }
+}
+
+impl Error for UnknownKind {}

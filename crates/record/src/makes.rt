@@ -6,32 +6,32 @@ ghost use Rattle.std.specs.Prelude.{◌≡◌, replicate};
 use crate::fields::{Claim, Operation, Place, Record, Round, Statement};
 use crate::kind::Kind;
 
-// A statement with nothing in it.
-const NOTHING: Statement = Statement {
-    kind: 0,
-    signer: 0,
-    client: 0,
-    spare: 0,
-    number: 0,
-    round: 0,
-    place: 0,
-    operation: [0; 16],
-    answer: 0,
-    nonce: 0,
-};
-
 impl Statement {
+    // A statement with nothing in it.
+    pub const NOTHING: Statement = Statement {
+        kind: 0,
+        signer: 0,
+        client: 0,
+        spare: 0,
+        number: 0,
+        round: 0,
+        place: 0,
+        operation: [0; 16],
+        answer: 0,
+        nonce: 0,
+    };
+
     // A client asks for a write.
     pub fn request(client: u8, number: u32, operation: &Operation) -> Statement
         ensures { result ≡ request client number operation.now }
     {
         Statement {
-            kind: Kind::Request.number(),
+            kind: Kind::Request.into(),
             signer: client,
             client,
             number,
             operation: *operation,
-            ..NOTHING
+            ..Statement::NOTHING
         }
     }
 
@@ -40,14 +40,14 @@ impl Statement {
         ensures { result ≡ grant site claim.now }
     {
         Statement {
-            kind: Kind::Grant.number(),
+            kind: Kind::Grant.into(),
             signer: site,
             client: claim.client,
             number: claim.number,
             round: claim.round,
             place: claim.place,
             operation: claim.operation,
-            ..NOTHING
+            ..Statement::NOTHING
         }
     }
 
@@ -56,12 +56,12 @@ impl Statement {
         ensures { result ≡ question client operation.now nonce }
     {
         Statement {
-            kind: Kind::Question.number(),
+            kind: Kind::Question.into(),
             signer: client,
             client,
             operation: *operation,
             nonce,
-            ..NOTHING
+            ..Statement::NOTHING
         }
     }
 
@@ -70,7 +70,7 @@ impl Statement {
         ensures { result ≡ answers site claim.now answer }
     {
         Statement {
-            kind: Kind::Answer.number(),
+            kind: Kind::Answer.into(),
             answer,
             ..Statement::grant(site, claim)
         }
@@ -87,7 +87,7 @@ impl Statement {
         ensures { result ≡ read_answer site asked.now.client asked.now.operation asked.now.nonce round place answer }
     {
         Statement {
-            kind: Kind::ReadAnswer.number(),
+            kind: Kind::ReadAnswer.into(),
             signer: site,
             client: asked.client,
             round,
@@ -95,7 +95,7 @@ impl Statement {
             operation: asked.operation,
             answer,
             nonce: asked.nonce,
-            ..NOTHING
+            ..Statement::NOTHING
         }
     }
 
@@ -104,11 +104,11 @@ impl Statement {
         ensures { result ≡ start site round place }
     {
         Statement {
-            kind: Kind::Start.number(),
+            kind: Kind::Start.into(),
             signer: site,
             round,
             place,
-            ..NOTHING
+            ..Statement::NOTHING
         }
     }
 
@@ -117,9 +117,9 @@ impl Statement {
         ensures { result ≡ show_grant place }
     {
         Statement {
-            kind: Kind::ShowGrant.number(),
+            kind: Kind::ShowGrant.into(),
             place,
-            ..NOTHING
+            ..Statement::NOTHING
         }
     }
 
@@ -128,8 +128,8 @@ impl Statement {
         ensures { result ≡ show_cert }
     {
         Statement {
-            kind: Kind::ShowCert.number(),
-            ..NOTHING
+            kind: Kind::ShowCert.into(),
+            ..Statement::NOTHING
         }
     }
 

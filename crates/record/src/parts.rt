@@ -3,6 +3,7 @@ ghost use Rattle.record.specs.Layout.{statement_part, seal_part};
 ghost use Rattle.std.specs.Prelude.{◌≡◌, ◌++◌};
 
 use crate::fields::Seal;
+use crate::layout::put;
 use crate::limits::{RECORD, STATEMENT};
 
 // The bytes that make the statement.
@@ -20,10 +21,11 @@ pub fn seal_part(bytes: &[u8; 80]) -> &[u8]
 }
 
 // The same statement under another seal.
+#[tactic(auto, using(std::proofs::lemmas::List::take_all))]
 pub fn with_seal(bytes: &[u8; 80], seal: &Seal) -> [u8; 80]
     ensures { result ≡ statement_part bytes.now ++ seal.now }
 {
     let mut out = *bytes;
-    out[STATEMENT..RECORD].copy_from_slice(seal);
+    put(&mut out, STATEMENT, seal);
     out
 }

@@ -2,7 +2,6 @@
 ghost use Rattle.record.specs.Ranges.{by_site, by_client, by_nobody, no_number, no_round_or_place, empty_operation, no_answer, no_nonce, at_place, client_or_mark, claims, in_range_as, in_range};
 ghost use Rattle.std.specs.Prelude.{◌≡◌};
 
-use crate::claims::same_operation;
 use crate::fields::{Place, Statement};
 use crate::kind::Kind;
 use crate::limits::{HIGHEST_CLIENT, HIGHEST_PLACE, HIGHEST_ROUND, MARK};
@@ -13,10 +12,7 @@ impl Statement {
     pub fn in_range(&self, f: u8) -> bool
         ensures { result ≡ in_range f self.now }
     {
-        match Kind::of(self.kind) {
-            Some(kind) => self.spare == 0 && self.in_range_as(f, kind),
-            None => false,
-        }
+        self.spare == 0 && Kind::try_from(self.kind).is_ok_and(|kind| self.in_range_as(f, kind))
     }
 
     // Whether the fields are those of a kind; what the kind does not use is zero.
@@ -141,12 +137,12 @@ impl Statement {
     fn at_place(&self, lowest: Place) -> bool
         ensures { result ≡ at_place lowest self.now }
     {
-        self.round <= HIGHEST_ROUND && lowest <= self.place && self.place <= HIGHEST_PLACE
+        self.round <= HIGHEST_ROUND && (lowest..=HIGHEST_PLACE).contains(&self.place)
     }
 
     fn empty_operation(&self) -> bool
         ensures { result ≡ empty_operation self.now }
     {
-        same_operation(&self.operation, &[0; 16])
+        self.operation == [0; 16]
     }
 }
