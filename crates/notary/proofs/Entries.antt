@@ -1,25 +1,16 @@
 -- The records of a book, one after the other.
-use Rattle.std.proofs.Common.{◌≡◌, ℕ, zero, suc, ◌+◌, ◌-◌, ◌*◌, ◌<◌, Bool, true, false, List, take, drop, sym, refl, ap, ◌∙◌, ⊎_elim, add-one, arith}
+use Rattle.std.proofs.Common.{◌≡◌, ℕ, zero, suc, ◌<◌, Bool, true, false, List, sym, refl, ⊎_elim, arith}
 use Rattle.std.proofs.lemmas.Slice.Eq.{bytes_eq-Decides}
-use Rattle.std.proofs.lemmas.Bool.{cases_lt, false≢true, or_cases, or_from, or_left, or_right}
+use Rattle.std.proofs.lemmas.Bool.{cases_lt, false≢true, or_cases, or_left, or_right}
 use Rattle.std.specs.Str.{bytes_eq}
-use Rattle.notary.specs.Book.{among, entry_at}
+use Rattle.notary.specs.Laws.{BookEntries}
+use Rattle.notary.specs.Book.{among, entries, entry_at, in_book}
 
-pub among_none : (book bytes : List ℕ) → among 0 book bytes ≡ false
-unfolding among
-among_none book bytes = refl
+not_true : (b : Bool) → (b ≡ true → ⊥) → b ≡ false
+not_true true h = absurd (h refl)
+not_true false h = refl
 
--- a record that is not the one asked for
-pub among_more
-    : (k : ℕ) (book bytes : List ℕ)
-    → among k book bytes ≡ false
-    → bytes_eq (entry_at k book) bytes ≡ false
-    → among (k + 1) book bytes ≡ false
-unfolding among
-among_more k book bytes before here =
-    rw add-one (or_from (among k book bytes) (bytes_eq (entry_at k book) bytes) before here)
-
--- a record that is
+-- a record that is the one asked for
 pub among_found
     : (n k : ℕ) (book bytes : List ℕ)
     → k < n
@@ -48,11 +39,20 @@ among_place (suc n) book bytes found =
     (λ here. (n, omega arith, (bytes_eq-Decides (entry_at n book) bytes).0 here))
     (or_cases (among n book bytes) (bytes_eq (entry_at n book) bytes) found)
 
--- a part of a book as the code cuts it
-pub entry_cut
-    : (k : ℕ) (book bytes : List ℕ) (t : Bool)
-    → t ≡ bytes_eq (take ((80 * k + 80) - 80 * k) (drop (80 * k) book)) bytes
-    → bytes_eq (entry_at k book) bytes ≡ t
-entry_cut k book bytes t e =
-    let n : (80 * k + 80) - 80 * k ≡ 80 = omega arith in
-    sym (e ∙ ap (λ m. bytes_eq (take m (drop (80 * k) book)) bytes) n)
+-- an answer that is yes where some entry is the record, and no where none is
+pub in_book_told
+    : (told : Bool) (book bytes : List ℕ)
+    → (told ≡ true → (k : ℕ) × (k < entries book) × (entry_at k book ≡ bytes))
+    → (told ≡ false → (k : ℕ) → k < entries book → entry_at k book ≡ bytes → ⊥)
+    → told ≡ in_book book bytes
+in_book_told true book bytes some none =
+    let (k, below, same) = some refl in
+    sym (among_found (entries book) k book bytes below ((bytes_eq-Decides (entry_at k book) bytes).1 same))
+in_book_told false book bytes some none = sym (not_true (in_book book bytes) (λ found.
+    let (k, below, same) = among_place (entries book) book bytes found in none refl k below same))
+
+pub book_entries : BookEntries
+book_entries book bytes = (
+  among_place (entries book) book bytes,
+  λ p. among_found (entries book) p.0 book bytes p.1 ((bytes_eq-Decides (entry_at p.0 book) bytes).1 p.2),
+)

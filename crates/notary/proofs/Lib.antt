@@ -1,3 +1,4 @@
 pub mod Accepting
+pub mod Chunks
 pub mod Entries
 pub mod Equal

@@ -1,5 +1,7 @@
 -- Which key a record is sealed under, and when its seal is good.
 use Rattle.std.specs.Prelude.{ℕ, Bool, false, cond, List, [], ◌++◌, get_or, Some, None, Option, nat_lt, slice_index_or}
+use Rattle.std.specs.Int.Bits.{bit_or, bit_xor}
+use Rattle.std.specs.List.{fold}
 use Rattle.std.specs.Str.{bytes_eq}
 use Rattle.record.specs.Kinds.{kind_of}
 use Rattle.record.specs.Layout.{seal_part, statement_of, statement_part}
@@ -62,6 +64,10 @@ sealer_at sealers i = slice_index_or sealers i (record { inner = []; outer = [] 
 -- the records that are sealed under the prepared keys of these sites and clients
 abbrev pub sealed_under : List Sealer → List Sealer → List ℕ → Bool
 sealed_under sites clients = sealed_by_signer sealed (sealer_at sites) (sealer_at clients)
+
+-- the bits in which pairs of bytes differ
+abbrev pub differing : List (ℕ × ℕ) → ℕ
+differing = fold (λ bits pair. bit_or bits (bit_xor pair.0 pair.1)) 0
 
 -- the record with the same statement and the seal that a key makes of it
 abbrev pub sealed_record : {K : Type 0} → (K → List ℕ → List ℕ) → K → List ℕ → List ℕ

@@ -1,8 +1,9 @@
 //! The notary that knows the keys of sites and clients.
-ghost use Rattle.std.specs.Prelude.{◌≡◌, ℕ, ◌<◌, List, map, slice_index};
+ghost use Rattle.std.specs.Prelude.{◌≡◌, ℕ, List, map};
+ghost use Rattle.std.specs.List.{zip};
 ghost use Rattle.std.specs.Str.{bytes_eq};
 ghost use Rattle.sha256.specs.Sealing.{prepared};
-ghost use Rattle.notary.specs.Keys.{key_for, keyed, member_key, sealed_if, sealed_under, sealer_at};
+ghost use Rattle.notary.specs.Keys.{differing, key_for, keyed, member_key, sealed_if, sealed_under, sealer_at};
 ghost use Rattle.record.specs.Layout.{statement_of};
 
 use crate::party::Party;
@@ -26,42 +27,36 @@ pub struct KeyedNotary {
     clients: [Sealer; MEMBERS],
 }
 
+/// The sealer of a key.
+fn sealer(key: Key) -> Sealer
+    ensures { result ≡ prepared key }
+{
+    Sealer::new(&key)
+}
+
 /// Prepares each of sixteen keys.
 fn prepare(keys: &[Key; MEMBERS]) -> [Sealer; MEMBERS]
     ensures { result ≡ map prepared keys.now }
 {
-    let mut sealers = [Sealer::new(&[]); MEMBERS];
-    for i in 0..MEMBERS {
-        sealers[i] = Sealer::new(&keys[i]);
-    }
-    sealers
+    keys.map(sealer)
 }
 
 /// The prepared key of a member, if there is one of that number.
 fn member_key(sealers: &[Sealer; MEMBERS], member: u8) -> Option<Sealer>
     ensures { result ≡ member_key (sealer_at sealers.now) member }
 {
-    let member = usize::from(member);
-    if member < MEMBERS {
-        Some(sealers[member])
-    } else {
-        None
-    }
+    sealers.get(usize::from(member)).copied()
 }
 
 /// The bits in which two seals differ. Every byte is read, whatever they hold.
 fn difference(a: &Seal, b: &Seal) -> u8
-    ensures equal { result ≡ 0 → (k : ℕ) → k < 32 → slice_index a.now k ≡ slice_index b.now k }
-    ensures none { ((k : ℕ) → k < 32 → slice_index a.now k ≡ slice_index b.now k) → result ≡ 0 }
+    ensures { result ≡ differing (zip a.now b.now) }
 {
-    let mut bits = 0;
-    for i in 0..a.len() {
-        bits |= a[i] ^ b[i];
-    }
-    bits
+    a.iter().zip(b).fold(0, |bits, (x, y)| bits | (x ^ y))
 }
 
 /// Whether two seals are equal.
+#[tactic(auto, using(crate::proofs::Equal::equal_seals))]
 fn same_seal(a: &Seal, b: &Seal) -> bool
     ensures { result ≡ bytes_eq a.now b.now }
 {
@@ -69,6 +64,7 @@ fn same_seal(a: &Seal, b: &Seal) -> bool
 }
 
 impl KeyedNotary {
+    #[tactic(auto, using(crate::proofs::Accepting::prepared_as_keys))]
     /// The notary that knows these keys, by the numbers of sites and of clients.
     pub fn new(sites: &[Key; MEMBERS], clients: &[Key; MEMBERS]) -> KeyedNotary
         ensures { (bytes : List ℕ) → sealed_under result.sites result.clients bytes ≡ keyed sites.now clients.now bytes }
@@ -83,7 +79,7 @@ impl KeyedNotary {
     fn key_for(&self, statement: &Statement) -> Option<Sealer>
         ensures { result ≡ key_for (sealer_at self.now.sites) (sealer_at self.now.clients) statement.now }
     {
-        let kind = Kind::of(statement.kind)?;
+        let kind = Kind::try_from(statement.kind).ok()?;
         match Party::signing(kind)? {
             Party::Client => member_key(&self.clients, statement.signer),
             Party::Site => member_key(&self.sites, statement.signer),
@@ -106,9 +102,9 @@ impl Notary for KeyedNotary {
 
     fn vouches(&self, bytes: &[u8; RECORD]) -> bool {
         let shown = Record::read(bytes);
-        match self.key_for(&shown.statement) {
-            Some(sealer) => same_seal(&shown.seal, &sealer.seal(statement_part(bytes))),
-            None => false,
-        }
+        self.key_for(&shown.statement).is_some_and(|sealer| same_seal(
+            &shown.seal,
+            &sealer.seal(statement_part(bytes)),
+        ))
     }
 }

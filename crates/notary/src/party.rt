@@ -17,14 +17,9 @@ impl Party {
         ensures { result ≡ party_of kind }
     {
         match kind {
-            Kind::Request => Some(Party::Client),
-            Kind::Grant => Some(Party::Site),
-            Kind::Question => Some(Party::Client),
-            Kind::Answer => Some(Party::Site),
-            Kind::ReadAnswer => Some(Party::Site),
-            Kind::Start => Some(Party::Site),
-            Kind::ShowGrant => None,
-            Kind::ShowCert => None,
+            Kind::Request | Kind::Question => Some(Party::Client),
+            Kind::Grant | Kind::Answer | Kind::ReadAnswer | Kind::Start => Some(Party::Site),
+            Kind::ShowGrant | Kind::ShowCert => None,
         }
     }
 }

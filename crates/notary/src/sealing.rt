@@ -8,6 +8,7 @@ use record::limits::RECORD;
 use record::parts::{statement_part, with_seal};
 use sha256::Sealer;
 
+#[tactic(auto, using(sha256::proofs::Keyed::sealed_is_hmac))]
 /// The same statement with the seal that a prepared key makes of it.
 pub fn seal_record(sealer: &Sealer, bytes: &[u8; RECORD]) -> [u8; RECORD]
     ensures value { result ≡ sealed_record sealed sealer.now bytes.now }

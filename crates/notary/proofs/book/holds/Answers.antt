@@ -1,32 +1,22 @@
-use Rattle.std.proofs.Common.{◌≡◌, ◌<◌, true, false, sym, arith}
-use Rattle.notary.specs.Book.{entries}
-use Rattle.notary.proofs.Entries.{among_none, among_more, among_found, entry_cut}
+use Rattle.std.proofs.Common.{rules}
+use Rattle.notary.proofs.Chunks.{some_chunk, every_chunk}
+use Rattle.notary.proofs.Entries.{in_book_told}
 use Rattle.notary.proofs.book.holds.Goals as goal
-
-pub loop-k-init : goal.loop-k-init
-loop-k-init c = among_none c.args.book.now c.args.bytes.now
-
-pub loop-k-preserved : goal.loop-k-preserved
-loop-k-preserved c =
-    among_more
-    c.loop-k.k
-    c.args.book.now
-    c.args.bytes.now
-    c.loop-k.invariant
-    (entry_cut c.loop-k.k c.args.book.now c.args.bytes.now false c.if-same.ensures)
-
-pub returns-then-same : goal.returns-then-same
-returns-then-same c =
-    let within : c.loop-k.k < entries c.args.book.now = omega arith in
-    sym
-    (among_found
-    (entries c.args.book.now)
-    c.loop-k.k
-    c.args.book.now
-    c.args.bytes.now
-    within
-    (entry_cut c.loop-k.k c.args.book.now c.args.bytes.now true c.if-same.ensures))
 
 pub returns : goal.returns
 returns c =
-    let end : c.loop-k.k ≡ entries c.args.book.now = omega arith in sym (rw end at c.loop-k.invariant)
+    let book = c.args.book.now in
+    let r = c.any.ensures.runs in
+    let chunks = c.chunks_exact.ensures.runs r.0 r.0.seen (search rules) in
+    in_book_told
+    c.any.result
+    book
+    c.args.bytes.now
+    (λ yes.
+    let any = rw yes at r.2 in
+    let found = some_chunk r.0 _ _ book (search rules) (search rules) chunks _ (any (λ a r f' call. search rules)) in
+    (found.0, found.1, search rules))
+    (λ no k below same.
+    let all = rw no at r.2 in
+    let found = every_chunk r.0 _ _ book (search rules) (search rules) chunks _ all.0 (all.1 (λ a r f' call. search rules)) k below in
+    search rules)
