@@ -11,3 +11,4 @@ pub mod Laws
 pub mod Filed
 pub mod Sending
 pub mod Alike
+pub mod Words

@@ -3,7 +3,6 @@ ghost use Rattle.office.specs.Judging.{claims_write};
 ghost use Rattle.office.specs.Taking.{answers_asked};
 ghost use Rattle.std.specs.Prelude.{◌≡◌};
 
-use record::claims::same_operation;
 use record::{Claim, Operation, Statement};
 
 /// A write that is open: the office's number for it, and what it asks.
@@ -25,9 +24,7 @@ impl Write {
     pub(crate) fn is_claimed(&self, client: u8, claim: &Claim) -> bool
         ensures { result ≡ claims_write client self.now claim.now }
     {
-        claim.client == client
-            && claim.number == self.number
-            && same_operation(&claim.operation, &self.operation)
+        claim.client == client && claim.number == self.number && claim.operation == self.operation
     }
 }
 
@@ -36,8 +33,6 @@ impl Question {
     pub(crate) fn is_answered(&self, client: u8, says: &Statement) -> bool
         ensures { result ≡ answers_asked client self.now says.now }
     {
-        says.client == client
-            && says.nonce == self.nonce
-            && same_operation(&says.operation, &self.operation)
+        says.client == client && says.nonce == self.nonce && says.operation == self.operation
     }
 }

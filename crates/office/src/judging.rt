@@ -13,7 +13,6 @@ use crate::likening::{ButSigner, OneClaim, OnePlace};
 use crate::slots::Slot;
 use crate::verdict::Verdict;
 use finder::{Group, find};
-use message::part::NOTHING;
 use record::{Claim, Kind, Statement};
 
 /// A verdict, with the sites whose records go with it.
@@ -28,11 +27,11 @@ fn lead(slots: &[Slot], group: &Group) -> Statement
     ensures { result ≡ lead_of slots.now (members group.now) }
 {
     let Some(site) = group.first() else {
-        return NOTHING;
+        return Statement::NOTHING;
     };
     match filed(slots, site) {
         Some(reply) => reply.statement,
-        None => NOTHING,
+        None => Statement::NOTHING,
     }
 }
 

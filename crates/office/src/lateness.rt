@@ -14,7 +14,7 @@ fn later(one: &Statement, other: &Statement) -> bool
     } else if one.place != other.place {
         one.place > other.place
     } else {
-        one.kind == Kind::Answer.number() && other.kind == Kind::Grant.number()
+        one.is(Kind::Answer) && other.is(Kind::Grant)
     }
 }
 

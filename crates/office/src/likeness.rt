@@ -23,10 +23,7 @@ impl Slot {
     fn holds(&self, kind: Kind) -> bool
         ensures { result ≡ of_kind kind self.now }
     {
-        match &self.filed {
-            Some(reply) => reply.statement.kind == kind.number(),
-            None => false,
-        }
+        self.filed.is_some_and(|reply| reply.statement.is(kind))
     }
 }
 

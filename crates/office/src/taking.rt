@@ -1,5 +1,5 @@
 //! Taking a reply: its checks, and where it is filed.
-ghost use Rattle.office.specs.Taking.{is_grant, is_read_answer, is_reply, read_reply, lent, standing as standing_of, filing, desk_or, done_or, beside_write, beside_question, filed_on};
+ghost use Rattle.office.specs.Taking.{is_reply, read_reply, lent, standing as standing_of, filing, desk_or, done_or, beside_write, beside_question, filed_on};
 ghost use Rattle.std.specs.Prelude.{◌≡◌};
 
 use crate::desk::{Desk, Standing};
@@ -8,25 +8,11 @@ use message::{MessageFault, SiteFault};
 use record::limits::RECORD;
 use record::{Kind, Record, Statement};
 
-/// Whether a statement is a GRANT.
-fn is_grant(says: &Statement) -> bool
-    ensures { result ≡ is_grant says.now }
-{
-    says.kind == Kind::Grant.number()
-}
-
-/// Whether a statement answers a question.
-fn is_read_answer(says: &Statement) -> bool
-    ensures { result ≡ is_read_answer says.now }
-{
-    says.kind == Kind::ReadAnswer.number()
-}
-
 /// Whether a statement is a reply.
 fn is_reply(says: &Statement) -> bool
     ensures { result ≡ is_reply says.now }
 {
-    is_grant(says) || says.kind == Kind::Answer.number() || is_read_answer(says)
+    says.is(Kind::Grant) || says.is(Kind::Answer) || says.is(Kind::ReadAnswer)
 }
 
 /// LENGTH, KIND and FIELD: the one record of a message that is a reply.
@@ -55,7 +41,7 @@ impl Desk {
         ensures { result ≡ beside_write client self.now.write says.now }
     {
         match &self.write {
-            Some(write) => if is_grant(says) || write.is_claimed(client, &says.claim()) {
+            Some(write) => if says.is(Kind::Grant) || write.is_claimed(client, &says.claim()) {
                 Standing::Like
             } else {
                 Standing::Unlike
@@ -82,7 +68,7 @@ impl Desk {
     pub(crate) fn standing(&self, client: u8, says: &Statement) -> Standing
         ensures { result ≡ standing_of client self.now says.now }
     {
-        if is_read_answer(says) {
+        if says.is(Kind::ReadAnswer) {
             self.beside_question(client, says)
         } else {
             self.beside_write(client, says)
@@ -94,7 +80,7 @@ impl Desk {
         ensures desk { self.new ≡ filed_on self.old reply.now }
         ensures stays { self.new.write ≡ self.old.write }
     {
-        if is_read_answer(&reply.statement) {
+        if reply.statement.is(Kind::ReadAnswer) {
             self.readings.take_in(reply);
         } else {
             self.replies.take_in(reply);

@@ -1,4 +1,8 @@
 //! What an office finds when it judges the replies that it has filed.
+ghost use Rattle.office.specs.Words.{word_of};
+ghost use Rattle.std.specs.Prelude.{Some};
+
+use std::fmt;
 
 /// A verdict.
 #[derive(Clone, Copy, PartialEq, Eq, Debug)]
@@ -22,4 +26,20 @@ pub enum Verdict {
 pub struct Judged {
     pub verdict: Verdict,
     pub count: usize,
+}
+
+/// The verdict's word.
+impl fmt::Display for Verdict {
+    ghost output = { λ v. Some (word_of v) };
+
+    fn fmt<W: fmt::Write>(&self, f: &mut fmt::Formatter<W>) -> fmt::Result {
+        f.write_str(match self {
+            Verdict::Done { .. } => "DONE",
+            Verdict::Certify => "CERTIFY",
+            Verdict::Back => "BACK",
+            Verdict::Clash => "CLASH",
+            Verdict::Catch { .. } => "CATCH",
+            Verdict::Wait => "WAIT",
+        })
+    }
 }
