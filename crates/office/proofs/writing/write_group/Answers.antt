@@ -1,7 +1,6 @@
 use Rattle.std.proofs.Common.{◌≡◌, ℕ, ◌+◌, ◌*◌, ◌<◌, List, ◌++◌, length, get_or, take, drop, sym, ap, ◌∙◌, arith, length-append, rules}
 use Rattle.finder.specs.Members.{members}
 use Rattle.office.proofs.Records.{records-none, records-more, one_more}
-use Rattle.std.proofs.lemmas.List.{take_all}
 use Rattle.office.specs.Judging.{bytes_in, records_of}
 use Rattle.office.specs.Slots.{slot_at}
 use Rattle.office.proofs.writing.write_group.Goals as goal
@@ -27,18 +26,3 @@ loop-k-preserved c =
           ∙ ap (λ (w : List ℕ). w ++ drop (n + 80) c.args.output.now) (sym more)
           ∙ ap (λ (k : ℕ). records_of slots (take (c.loop-k.k + 1) sites) ++ drop k c.args.output.now) long,
     )
-
-pub returns : goal.returns
-returns c =
-    let slots = c.args.slots.now in
-    let sites = members c.args.group.now in
-    let same : c.members-sites.result.now ≡ sites = c.members-sites.ensures in
-    let all : take c.loop-k.k sites ≡ sites = take_all c.loop-k.k sites (omega (arith, ap length same)) in
-    let size : 80 * c.loop-k.k ≡ length (records_of slots sites) = sym c.loop-k.invariant.0 ∙ ap (λ (l : List ℕ). length (records_of slots l)) all in
-    record {
-      count = omega (arith, size, c.loop-k-test.false, c.loop-k.auto.k-end);
-      after =
-          c.loop-k.invariant.1
-          ∙ ap (λ (l : List ℕ). records_of slots l ++ drop (80 * c.loop-k.k) c.args.output.now) all
-          ∙ ap (λ (k : ℕ). records_of slots sites ++ drop k c.args.output.now) size;
-    }

@@ -1,21 +1,6 @@
-use Rattle.std.proofs.Common.{refl, rules}
 use Rattle.office.proofs.Keeping.{ended_sound, sound_as}
 use Rattle.office.specs.Calls.{without_write}
 use Rattle.office.proofs.office.Office.give_up.Goals as goal
-
-pub returns-in-Ok : goal.returns-in-Ok
-returns-in-Ok g c =
-    let office = c.args.self.now in
-    let f = office.figures.f in
-    let client = office.figures.client in
-    let accepts = g.N.Notary.means office.notary in
-    record {
-      desk = search rules;
-      result = search rules;
-      back = tt;
-      taken = λ _. refl;
-      same = (refl, refl);
-    }
 
 pub invariant_of-self : goal.invariant_of-self
 invariant_of-self g c =

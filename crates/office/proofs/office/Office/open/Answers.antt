@@ -1,23 +1,7 @@
-use Rattle.std.proofs.Common.{refl, ap, ◌∙◌, rules}
+use Rattle.std.proofs.Common.{refl, ap, ◌∙◌}
 use Rattle.office.proofs.Keeping.{begun_sound, sound_as}
 use Rattle.office.specs.Calls.{if_begun, number_begun}
 use Rattle.office.proofs.office.Office.open.Goals as goal
-
-pub returns : goal.returns
-returns g c =
-    let office = c.args.self.now in
-    let desk = office.desk in
-    let operation = c.args.operation.now in
-    let f = office.figures.f in
-    let client = office.figures.client in
-    let accepts = g.N.Notary.means office.notary in
-    record {
-      number = search rules;
-      desk = c.open.ensures.desk;
-      board = search rules;
-      room = search rules;
-      same = (refl, refl);
-    }
 
 pub invariant_of-self : goal.invariant_of-self
 invariant_of-self g c =

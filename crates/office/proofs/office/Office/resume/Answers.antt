@@ -1,18 +1,6 @@
-use Rattle.std.proofs.Common.{rules}
 use Rattle.office.proofs.Keeping.{clear_sound, sound_as}
 use Rattle.office.specs.Calls.{clear_desk}
 use Rattle.office.proofs.office.Office.resume.Goals as goal
-
-pub returns : goal.returns
-returns g c =
-    let f = c.fitted.result.f in
-    let client = c.fitted.result.client in
-    let accepts = g.N.Notary.means c.args.notary in
-    record {
-      figures = search rules;
-      desk = c.after.ensures;
-      kept = search rules;
-    }
 
 pub invariant_of-result : goal.invariant_of-result
 invariant_of-result g c =
