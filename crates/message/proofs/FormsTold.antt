@@ -1,35 +1,16 @@
 -- The tests of the forms, and what the records of a message are.
-use Rattle.std.proofs.Common.{◌≡◌, ℕ, zero, suc, ◌+◌, ◌-◌, ◌<◌, ◌≤◌, Bool, true, false, cond, ◌&&◌, eqb, leb, ◌⊎◌, List, Some, None, Option, sym, refl, ap, ◌∙◌, subst, inl, inr, ⊎_elim, arith}
-use Rattle.std.proofs.lemmas.Bool.{eqb-true, eq-eqb, ne_eqb, leb-true, le-leb, and_parts, and_from, and_left, and_right, cond-true, cond-false, cases_Bool, cases_eq}
+use Rattle.std.proofs.Common.{◌≡◌, ℕ, ◌+◌, ◌-◌, ◌<◌, ◌≤◌, Bool, true, false, cond, ◌&&◌, eqb, leb, ◌⊎◌, List, Some, None, Option, sym, refl, ap, ◌∙◌, subst, inl, inr, ⊎_elim, arith}
+use Rattle.std.proofs.lemmas.Bool.{eqb-true, eq-eqb, ne_eqb, leb-true, le-leb, and_parts, and_from, and_left, and_right, cond-true, cond-false, cases_Bool}
 use Rattle.record.specs.Kinds.{kind_number}
 use Rattle.record.specs.declared.kind.Kind.{Kind}
 use Rattle.record.specs.declared.kind.Kind.TheVariants.{Request, Grant, Question, Start, ShowGrant, ShowCert}
-use Rattle.message.proofs.OneKind.{all_unroll}
+use Rattle.message.proofs.OneKind.{all_unroll, kinds_from, from_kinds}
 use Rattle.message.specs.Forms.{quorum, is_kind, all_kind, lone, ends_in_requests, write_2_form, resolve_form, bare_round_form, full_round_form, lone_form_of, quorum_form_of, pool_form_of, or_form, form_of}
 use Rattle.message.specs.Laws.{Kinds, HasForm, FormsTold}
 use Rattle.message.specs.Records.{records, statement_at}
 use Rattle.message.specs.declared.form.Form.{Form}
 use Rattle.message.specs.declared.form.Form.TheVariants as shown
 use Rattle.message.specs.declared.form.Form.TheVariants.{Write1, Read, Write2, Resolve, Round}
-
--- One kind throughout.
-pub kinds_from : (kind : Kind) (m : List ℕ) (i n : ℕ) → all_kind kind m i n ≡ true → Kinds kind m i (i + n)
-unfolding all_kind
-kinds_from kind m i zero e = λ k from less. absurd (omega arith)
-kinds_from kind m i (suc n) e = λ k from less.
-    let p = and_parts (is_kind kind m i) (all_kind kind m (i + 1) n) e in
-    ⊎_elim
-    (λ ki. ap (λ j. (statement_at m j).kind) ki ∙ eqb-true _ _ p.0)
-    (λ ne. kinds_from kind m (i + 1) n p.1 k (omega arith) (omega arith))
-    (cases_eq k i)
-
-pub from_kinds : (kind : Kind) (m : List ℕ) (i n : ℕ) → Kinds kind m i (i + n) → all_kind kind m i n ≡ true
-unfolding all_kind
-from_kinds kind m i zero kinds = refl
-from_kinds kind m i (suc n) kinds =
-    and_from (is_kind kind m i) (all_kind kind m (i + 1) n)
-    (eq-eqb _ _ (kinds i (omega arith) (omega arith)))
-    (from_kinds kind m (i + 1) n (λ k from less. kinds k (omega arith) (omega arith)))
 
 -- A record of one kind is of no other.
 other_kind : (kind kind' : Kind) (m : List ℕ) (i : ℕ) → (statement_at m i).kind ≡ kind_number kind → (kind_number kind ≡ kind_number kind' → ⊥) → is_kind kind' m i ≡ false

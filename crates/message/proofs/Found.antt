@@ -1,6 +1,7 @@
 -- What the lowest index at which a test holds says of the test.
-use Rattle.std.proofs.Common.{◌≡◌, ℕ, zero, suc, ◌+◌, ◌<◌, ◌≤◌, Bool, true, false, ◌⊎◌, Some, None, Option, sym, refl, ap, ◌∙◌, inl, inr, ⊎_elim, arith}
+use Rattle.std.proofs.Common.{◌≡◌, ℕ, zero, suc, ◌+◌, ◌-◌, ◌<◌, ◌≤◌, Bool, true, false, ◌⊎◌, Some, None, Option, sym, refl, ap, ◌∙◌, inl, inr, ⊎_elim, arith}
 use Rattle.std.proofs.lemmas.Bool.{cond-true, cond-false, cases_Bool, cases_eq}
+use Rattle.std.specs.Option.{MatchOption}
 use Rattle.message.specs.Records.{lowest}
 
 -- the test fails at each of n indexes from i on
@@ -60,3 +61,31 @@ some_lowest test i (suc n) k e =
 -- whether there is such an index
 pub found_or_never : (test : ℕ → Bool) (i n : ℕ) → (lowest test i n ≡ None) ⊎ ((k : ℕ) × (lowest test i n ≡ Some k))
 found_or_never test i n = elim (lowest test i n) as (λ o. (o ≡ None) ⊎ ((k : ℕ) × (o ≡ Some k))) [ None ↦ inl refl | Some k ↦ inr (k, refl) ]
+
+-- the lowest index at which a test holds is the one that is found
+pub lowest_is : (test : ℕ → Bool) (i n k : ℕ) → i ≤ k → k < i + n → test k ≡ true → ((j : ℕ) → i ≤ j → j < k → test j ≡ false) → lowest test i n ≡ Some k
+unfolding lowest
+lowest_is test i zero k from below holds first = absurd (omega arith)
+lowest_is test i (suc n) k from below holds first =
+    ⊎_elim
+    (λ e. cond-true (test i) (Some i) (lowest test (i + 1) n) (ap test (sym e) ∙ holds) ∙ ap Some (sym e))
+    (λ ne.
+    cond-false (test i) (Some i) (lowest test (i + 1) n) (first i (omega arith) (omega arith))
+    ∙ lowest_is test (i + 1) n k (omega arith) (omega arith) holds (λ j low less. first j (omega arith) less))
+    (cases_eq k i)
+
+-- What `find` gives over the indexes from a to below b.
+abbrev pub IsFound : (ℕ → Bool) → ℕ → ℕ → Option ℕ → Type 0
+IsFound test a b found =
+    MatchOption found ((k : ℕ) → a ≤ k → k < b → test k ≡ false)
+    (λ i. (a ≤ i) × (i < b) × (test i ≡ true) × ((k : ℕ) → a ≤ k → k < i → test k ≡ false))
+
+pub found_lowest : (test : ℕ → Bool) (a b : ℕ) (found : Option ℕ) → IsFound test a b found → found ≡ lowest test a (b - a)
+found_lowest test a b None never = sym (never_none test a (b - a) (λ k from less. never k from (omega arith)))
+found_lowest test a b (Some i) (from, below, holds, first) = sym (lowest_is test a (b - a) i from (omega arith) holds first)
+
+pub found_from : (test : ℕ → Bool) (a end b : ℕ) (found : Option ℕ) → end ≡ b → IsFound test a end found → found ≡ lowest test a (b - a)
+found_from test a end b found e is = found_lowest test a end found is ∙ ap (λ n. lowest test a (n - a)) e
+
+pub found_first : (test : ℕ → Bool) (end n : ℕ) (found : Option ℕ) → end ≡ n → IsFound test 0 end found → found ≡ lowest test 0 n
+found_first test end n found e is = let z : n - 0 ≡ n = omega arith in found_from test 0 end n found e is ∙ ap (lowest test 0) z

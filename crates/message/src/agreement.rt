@@ -23,12 +23,12 @@ impl Agreement {
         ensures { result ≡ unlike self first.now other.now }
     {
         match self {
-            Agreement::OneClaim => !(first.claim() == other.claim()),
+            Agreement::OneClaim => first.claim() != other.claim(),
             Agreement::OneClaimIn(round) => {
-                !(first.claim() == other.claim() && other.round == round)
+                first.claim() != other.claim() || other.round != round
             }
-            Agreement::OnePlace => !(first.round == other.round && first.place == other.place),
-            Agreement::OneRound => !(first.round == other.round),
+            Agreement::OnePlace => first.round != other.round || first.place != other.place,
+            Agreement::OneRound => first.round != other.round,
         }
     }
 }

@@ -2,9 +2,8 @@
 ghost use Rattle.std.specs.Prelude.{◌≡◌, ◌<◌, length, replicate, IfSome};
 ghost use Rattle.message.specs.Checks.{first_again};
 ghost use Rattle.message.specs.Records.{records};
-ghost use Rattle.message.specs.Sizes.{SmallSigners};
 
-use crate::part::Part;
+use crate::group::Group;
 use crate::records::statement_at;
 
 /// Holds the board while signers are counted, and clears it at its end, whatever the outcome.
@@ -28,12 +27,14 @@ fn clear(board: &mut [u8])
     board.fill(0);
 }
 
-/// The first record of a part whose signer has signed an earlier one of it. A signer's board byte is 1 once it has signed.
-pub(crate) fn first_again(part: &Part, board: &mut [u8]) -> Option<usize>
-    requires { (length board.old ≡ 16) × (SmallSigners part.now.bytes.now) }
-    ensures value { result ≡ first_again part.now.bytes.now }
-    ensures within { IfSome result (λ k. k < records part.now.bytes.now) }
+/// The first record of a group whose signer has signed an earlier one of it. A signer's board byte is 1 once it has signed.
+/// The index is looped over: that is this project's form for the records of a group.
+pub(crate) fn first_again(group: &Group, board: &mut [u8]) -> Option<usize>
+    requires { length board.old ≡ 16 }
+    ensures value { result ≡ first_again group.now.part.bytes.now }
+    ensures within { IfSome result (λ k. k < records group.now.part.bytes.now) }
 {
+    let part = group.part;
     clear(board);
     for k in 0..part.count() {
         let signer = usize::from(statement_at(part.bytes, k).signer);

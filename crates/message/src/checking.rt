@@ -4,9 +4,8 @@ ghost use Rattle.message.specs.Saying.{sent_or, Held};
 ghost use Rattle.std.specs.Prelude.{◌≡◌, length, replicate, IfOk, if◌then◌else◌};
 
 use crate::board::Counting;
-use crate::by_form::{agreed, clash, distinct, ordered, reached, vouched};
+use crate::by_form::Formed;
 use crate::faults::CertificateFault;
-use crate::holding::holding;
 use crate::reading::{fitting, read_form};
 use crate::said::Message;
 use notary::Notary;
@@ -23,13 +22,14 @@ fn certified<'a, N: Notary>(
     ensures parts { IfOk result (λ held. Held f message.now held) }
 {
     let form = read_form(f, message)?;
-    agreed(f, message, form)?;
-    clash(f, message, form)?;
-    distinct(f, message, form, board)?;
-    vouched(notary, message, form)?;
-    reached(f, message, form)?;
-    ordered(f, message, form)?;
-    Ok(holding(f, message, form))
+    let formed = Formed { f, message, form };
+    formed.agreed()?;
+    formed.clash()?;
+    formed.distinct(board)?;
+    formed.vouched(notary)?;
+    formed.reached()?;
+    formed.ordered()?;
+    Ok(formed.holding())
 }
 
 /// The ten checks. `room` is the length of the output. The board is left with sixteen zero bytes, and only where it or

@@ -2,6 +2,7 @@
 ghost use Rattle.message.specs.Laws.{FormsTold, AcceptedWhenPassed, FirstFaultNamed};
 
 /// A form is given to a message exactly where the message has it.
+#[tactic(auto, using(crate::proofs::FormsTold::forms_told))]
 pub fn forms_told()
     ensures { FormsTold }
 {}

@@ -23,6 +23,7 @@ mod certificate;
 pub mod checking;
 pub mod faults;
 pub mod form;
+mod group;
 mod holding;
 pub mod laws;
 pub mod limits;

@@ -18,18 +18,7 @@ pub struct Part<'a> {
 }
 
 /// A statement with nothing in it.
-pub const NOTHING: Statement = Statement {
-    kind: 0,
-    signer: 0,
-    client: 0,
-    spare: 0,
-    number: 0,
-    round: 0,
-    place: 0,
-    operation: [0; 16],
-    answer: 0,
-    nonce: 0,
-};
+pub const NOTHING: Statement = Statement::NOTHING;
 
 impl<'a> Part<'a> {
     /// The part of a message that has `n` records from index `first` on.
@@ -67,7 +56,7 @@ impl<'a> Part<'a> {
         if i < self.count() {
             statement_at(self.bytes, i)
         } else {
-            NOTHING
+            Statement::NOTHING
         }
     }
 
@@ -75,7 +64,7 @@ impl<'a> Part<'a> {
     pub fn request(&self, i: usize) -> Request
         ensures { result ≡ request_of (stated self.now.bytes.now i) }
     {
-        Request::of(&self.statement(i))
+        Request::from(&self.statement(i))
     }
 
     /// The claim of the part's first record: that of a certificate.

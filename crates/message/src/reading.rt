@@ -33,14 +33,10 @@ pub fn is_whole(message: &[u8]) -> bool
 pub fn first_outside(f: u8, message: &[u8]) -> Option<usize>
     ensures { result ≡ first_outside f message.now }
 {
-    for i in 0..records(message) {
-        if !statement_at(message, i).in_range(f) {
-            return Some(i);
-        }
-    }
-    None
+    (0..records(message)).find(|i| !statement_at(message, *i).in_range(f))
 }
 
+#[tactic(auto, using(crate::proofs::Read::readable))]
 /// LENGTH, KIND and FIELD: the form of a message whose records are each in range.
 pub fn read_form(f: u8, message: &[u8]) -> Result<Form, MessageFault>
     ensures value { result ≡ read_form f message.now }
@@ -49,11 +45,6 @@ pub fn read_form(f: u8, message: &[u8]) -> Result<Form, MessageFault>
     if !is_whole(message) {
         return Err(MessageFault::Length);
     }
-    let Some(form) = form_of(f, message) else {
-        return Err(MessageFault::Kind);
-    };
-    match first_outside(f, message) {
-        Some(i) => Err(MessageFault::Field(i)),
-        None => Ok(form),
-    }
+    let form = form_of(f, message).ok_or(MessageFault::Kind)?;
+    first_outside(f, message).map_or(Ok(form), |i| Err(MessageFault::Field(i)))
 }

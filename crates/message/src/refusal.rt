@@ -14,24 +14,18 @@ pub struct Refusal {
 }
 
 impl Refusal {
+    /// A word that does not fit what a site or an office is asked: FIELD of layer 3.
+    pub const UNFIT: Refusal = Refusal {
+        number: 4,
+        index: 0,
+        layer: 3,
+    };
+
     /// What a fault returns to the caller.
     pub fn of(fault: SiteFault) -> Refusal
         ensures { result ≡ refusal_of fault }
     {
-        match fault {
-            SiteFault::Certificate(fault) => of_certificate(fault),
-            SiteFault::Wait => refused(11, 0, 3),
-            SiteFault::Old(r) => refused(12, r, 3),
-            SiteFault::Spent(r) => refused(13, r, 3),
-            SiteFault::Busy(r) => refused(14, r, 3),
-            SiteFault::Ahead => refused(15, 0, 3),
-            SiteFault::Stale => refused(16, 0, 3),
-            SiteFault::Taken => refused(17, 0, 3),
-            SiteFault::Gap => refused(18, 0, 3),
-            SiteFault::UsedUp(r) => refused(19, r, 3),
-            SiteFault::TooFar => refused(20, 0, 3),
-            SiteFault::Nothing => refused(21, 0, 3),
-        }
+        fault.into()
     }
 
     /// The name of the refusal, by its number; no other number has one.
@@ -65,38 +59,56 @@ impl Refusal {
     }
 }
 
-impl From<SiteFault> for Refusal {
-    ghost from_gives = { λ e r. r ≡ refusal_of e };
+/// Layer 1: the message.
+impl From<MessageFault> for Refusal {
+    ghost from_gives = { λ fault refusal. refusal ≡ refusal_of_message fault };
 
-    fn from(fault: SiteFault) -> Refusal {
-        Refusal::of(fault)
+    fn from(fault: MessageFault) -> Refusal {
+        match fault {
+            MessageFault::Short => refused(1, 0, 1),
+            MessageFault::Length => refused(2, 0, 1),
+            MessageFault::Kind => refused(3, 0, 1),
+            MessageFault::Field(i) => refused(4, i, 1),
+        }
     }
 }
 
 /// Layer 2: the certificates.
-fn of_certificate(fault: CertificateFault) -> Refusal
-    ensures { result ≡ refusal_of_certificate fault }
-{
-    match fault {
-        CertificateFault::Message(fault) => of_message(fault),
-        CertificateFault::Mixed(i) => refused(5, i, 2),
-        CertificateFault::Same => refused(6, 0, 2),
-        CertificateFault::Twice(i) => refused(7, i, 2),
-        CertificateFault::Unvouched(i) => refused(8, i, 2),
-        CertificateFault::Low(i) => refused(9, i, 2),
-        CertificateFault::Order(i) => refused(10, i, 2),
+impl From<CertificateFault> for Refusal {
+    ghost from_gives = { λ fault refusal. refusal ≡ refusal_of_certificate fault };
+
+    fn from(fault: CertificateFault) -> Refusal {
+        match fault {
+            CertificateFault::Message(fault) => fault.into(),
+            CertificateFault::Mixed(i) => refused(5, i, 2),
+            CertificateFault::Same => refused(6, 0, 2),
+            CertificateFault::Twice(i) => refused(7, i, 2),
+            CertificateFault::Unvouched(i) => refused(8, i, 2),
+            CertificateFault::Low(i) => refused(9, i, 2),
+            CertificateFault::Order(i) => refused(10, i, 2),
+        }
     }
 }
 
-/// Layer 1: the message.
-fn of_message(fault: MessageFault) -> Refusal
-    ensures { result ≡ refusal_of_message fault }
-{
-    match fault {
-        MessageFault::Short => refused(1, 0, 1),
-        MessageFault::Length => refused(2, 0, 1),
-        MessageFault::Kind => refused(3, 0, 1),
-        MessageFault::Field(i) => refused(4, i, 1),
+/// Layer 3: the site or office.
+impl From<SiteFault> for Refusal {
+    ghost from_gives = { λ fault refusal. refusal ≡ refusal_of fault };
+
+    fn from(fault: SiteFault) -> Refusal {
+        match fault {
+            SiteFault::Certificate(fault) => fault.into(),
+            SiteFault::Wait => refused(11, 0, 3),
+            SiteFault::Old(r) => refused(12, r, 3),
+            SiteFault::Spent(r) => refused(13, r, 3),
+            SiteFault::Busy(r) => refused(14, r, 3),
+            SiteFault::Ahead => refused(15, 0, 3),
+            SiteFault::Stale => refused(16, 0, 3),
+            SiteFault::Taken => refused(17, 0, 3),
+            SiteFault::Gap => refused(18, 0, 3),
+            SiteFault::UsedUp(r) => refused(19, r, 3),
+            SiteFault::TooFar => refused(20, 0, 3),
+            SiteFault::Nothing => refused(21, 0, 3),
+        }
     }
 }
 

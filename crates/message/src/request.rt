@@ -5,7 +5,7 @@ ghost use Rattle.std.specs.Prelude.{◌≡◌};
 use record::{Operation, Statement};
 
 /// One client's request for a write, under the client's own number for it.
-#[derive(Clone, Copy)]
+#[derive(Clone, Copy, PartialEq, Eq)]
 pub struct Request {
     pub client: u8,
     pub number: u32,
@@ -17,6 +17,14 @@ impl Request {
     pub fn of(says: &Statement) -> Request
         ensures { result ≡ request_of says.now }
     {
+        says.into()
+    }
+}
+
+impl From<&Statement> for Request {
+    ghost from_gives = { λ says request. request ≡ request_of says.now };
+
+    fn from(says: &Statement) -> Request {
         Request {
             client: says.client,
             number: says.number,

@@ -1,10 +1,11 @@
 //! What a ROUND's STARTs and REQUESTs must keep to.
-ghost use Rattle.std.specs.Prelude.{◌≡◌, ◌<◌, ◌≤◌, IfSome, nat_le, nat_lt};
+ghost use Rattle.std.specs.Prelude.{◌≡◌, ◌<◌, IfSome, nat_le, nat_lt};
 ghost use Rattle.message.specs.Checks.{first_above, first_unordered, refuse};
 ghost use Rattle.message.specs.Records.{records};
 ghost use Rattle.message.specs.declared.faults.CertificateFault.TheVariants.{Low as low_at, Order as order_at};
 
 use crate::faults::CertificateFault;
+use crate::group::Group;
 use crate::part::Part;
 use crate::records::statement_at;
 use record::{Place, Statement};
@@ -28,12 +29,7 @@ fn first_above(starts: &Part, target: Place) -> Option<usize>
     ensures value { result ≡ first_above target starts.now.bytes.now }
     ensures within { IfSome result (λ k. k < records starts.now.bytes.now) }
 {
-    for k in 0..starts.count() {
-        if above(target, &statement_at(starts.bytes, k)) {
-            return Some(k);
-        }
-    }
-    None
+    (0..starts.count()).find(|k| above(target, &statement_at(starts.bytes, *k)))
 }
 
 /// The first REQUEST, after the first, whose client is not above the one before.
@@ -41,33 +37,22 @@ fn first_unordered(requests: &Part) -> Option<usize>
     ensures value { result ≡ first_unordered requests.now.bytes.now }
     ensures within { IfSome result (λ k. k < records requests.now.bytes.now) }
 {
-    for k in 1..requests.count() {
-        let before = statement_at(requests.bytes, k - 1);
-        if not_rising(&before, &statement_at(requests.bytes, k)) {
-            return Some(k);
-        }
-    }
-    None
+    (1..requests.count()).find(|k| {
+        let before = statement_at(requests.bytes, *k - 1);
+        not_rising(&before, &statement_at(requests.bytes, *k))
+    })
 }
 
 /// LOW: no START is above the target.
-pub(crate) fn reaching(starts: &Part, target: Place) -> Result<(), CertificateFault>
-    requires { starts.now.first ≤ 38 }
-    ensures { result ≡ refuse low_at starts.now.first (first_above target starts.now.bytes.now) }
+pub(crate) fn reaching(starts: &Group, target: Place) -> Result<(), CertificateFault>
+    ensures { result ≡ refuse low_at starts.now.part.first (first_above target starts.now.part.bytes.now) }
 {
-    match first_above(starts, target) {
-        Some(k) => Err(CertificateFault::Low(starts.index(k))),
-        None => Ok(()),
-    }
+    starts.refuse(first_above(&starts.part, target), CertificateFault::Low)
 }
 
 /// ORDER: the clients of the REQUESTs rise strictly.
-pub(crate) fn rising(requests: &Part) -> Result<(), CertificateFault>
-    requires { requests.now.first ≤ 38 }
-    ensures { result ≡ refuse order_at requests.now.first (first_unordered requests.now.bytes.now) }
+pub(crate) fn rising(requests: &Group) -> Result<(), CertificateFault>
+    ensures { result ≡ refuse order_at requests.now.part.first (first_unordered requests.now.part.bytes.now) }
 {
-    match first_unordered(requests) {
-        Some(k) => Err(CertificateFault::Order(requests.index(k))),
-        None => Ok(()),
-    }
+    requests.refuse(first_unordered(&requests.part), CertificateFault::Order)
 }

@@ -1,5 +1,6 @@
 //! Messages as parts of the input.
 use crate::part::Part;
+use std::fmt;
 
 /// A message that has passed the checks. Each case holds the parts of the input that it consists of.
 #[derive(Clone, Copy)]
@@ -27,4 +28,18 @@ pub enum Message<'a> {
         shown: Part<'a>,
     },
     ShowCert,
+}
+
+impl fmt::Display for Message<'_> {
+    fn fmt<W: fmt::Write>(&self, f: &mut fmt::Formatter<W>) -> fmt::Result {
+        f.write_str(match self {
+            Message::Write1 { .. } => "WRITE-1",
+            Message::Read { .. } => "READ",
+            Message::Write2 { .. } => "WRITE-2",
+            Message::Resolve { .. } => "RESOLVE",
+            Message::Round { .. } => "ROUND",
+            Message::ShowGrant { .. } => "SHOW-GRANT",
+            Message::ShowCert => "SHOW-CERT",
+        })
+    }
 }

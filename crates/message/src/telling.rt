@@ -20,7 +20,7 @@ fn is_kind(kind: Kind, message: &[u8], i: usize) -> bool
     requires { i < records message.now }
     ensures { result ≡ is_kind kind message.now i }
 {
-    statement_at(message, i).kind == kind.number()
+    statement_at(message, i).is(kind)
 }
 
 /// Whether each of `n` records from index `first` on is of a kind.
@@ -28,12 +28,7 @@ fn all_kind(kind: Kind, message: &[u8], first: usize, n: usize) -> bool
     requires { first + n ≤ records message.now }
     ensures { result ≡ all_kind kind message.now first n }
 {
-    for i in first..first + n {
-        if !is_kind(kind, message, i) {
-            return false;
-        }
-    }
-    true
+    (first..first + n).all(|i| is_kind(kind, message, i))
 }
 
 /// Whether the message is one record, of a kind.
@@ -143,8 +138,5 @@ fn pool_form(f: u8, message: &[u8]) -> Option<Form>
 pub fn form_of(f: u8, message: &[u8]) -> Option<Form>
     ensures { result ≡ form_of f message.now }
 {
-    match lone_form(message) {
-        Some(form) => Some(form),
-        None => pool_form(f, message),
-    }
+    lone_form(message).or_else(|| pool_form(f, message))
 }

@@ -15,17 +15,17 @@ signer-is part k x s es ex = cc
 
 pub loop-k-init : goal.loop-k-init
 loop-k-init c =
-    let part = c.args.part.now.bytes.now in
-    let clear : c.clear.new.board ≡ replicate 16 0 = c.clear.ensures ∙ ap (λ n. replicate n 0) c.requires.0 in
+    let part = c.args.group.now.part.bytes.now in
+    let clear : c.clear.new.board ≡ replicate 16 0 = c.clear.ensures ∙ ap (λ n. replicate n 0) c.requires in
     (at_start (test part) (records part), ap length clear, marked_none part c.clear.new.board clear)
 
 pub loop-k-preserved : goal.loop-k-preserved
 loop-k-preserved c =
-    let part = c.args.part.now.bytes.now in
+    let part = c.args.group.now.part.bytes.now in
     let less : c.loop-k.k < records part = omega arith in
     let x = c.from-signer.result in
     let is = signer-is part c.loop-k.k x _ c.statement_at.ensures c.from-signer.ensures in
-    let small : x < 16 = omega (arith, c.requires.1 c.loop-k.k less, is) in
+    let small : x < 16 = omega (arith, c.args.group.now.signers c.loop-k.k less, is) in
     let unmarked = mark_zero _ _ (c.loop-k.invariant.2 x small) c.if-board-signer-ne0.false in (
       passed_over (test part) c.loop-k.k (records part) less (ap (λ s. signed_among s part c.loop-k.k) (sym is) ∙ unmarked) c.loop-k.invariant.0,
       length-set c.loop-k.board x 1 ∙ c.loop-k.invariant.1,
@@ -34,11 +34,11 @@ loop-k-preserved c =
 
 pub returns-then-board-signer-ne0 : goal.returns-then-board-signer-ne0
 returns-then-board-signer-ne0 c =
-    let part = c.args.part.now.bytes.now in
+    let part = c.args.group.now.part.bytes.now in
     let less : c.loop-k.k < records part = omega arith in
     let x = c.from-signer.result in
     let is = signer-is part c.loop-k.k x _ c.statement_at.ensures c.from-signer.ensures in
-    let small : x < 16 = omega (arith, c.requires.1 c.loop-k.k less, is) in
+    let small : x < 16 = omega (arith, c.args.group.now.signers c.loop-k.k less, is) in
     let marked = mark_set _ _ (c.loop-k.invariant.2 x small) c.if-board-signer-ne0.true in
     record {
       value = stopped_at (test part) c.loop-k.k (records part) less (ap (λ s. signed_among s part c.loop-k.k) (sym is) ∙ marked) c.loop-k.invariant.0;
@@ -47,6 +47,6 @@ returns-then-board-signer-ne0 c =
 
 pub returns : goal.returns
 returns c =
-    let part = c.args.part.now.bytes.now in
+    let part = c.args.group.now.part.bytes.now in
     let more : records part ≤ c.loop-k.k = omega arith in
     record { value = at_end (test part) c.loop-k.k (records part) more c.loop-k.invariant.0; within = tt }

@@ -1,24 +1,14 @@
-use Rattle.std.proofs.Common.{◌≡◌, ◌+◌, ◌-◌, ◌<◌, ◌≤◌, sym, ap, ◌∙◌, arith}
-use Rattle.message.proofs.OneKind.{kind_passed, kind_failed, kinds_end}
-use Rattle.message.specs.Forms.{all_kind}
+use borrow.Author.Tests.{tests}
+use Rattle.std.proofs.Common.{◌≡◌, ◌+◌, true, false, rules, arith}
+use Rattle.std.proofs.lemmas.Iterator.{cases_from_all, YieldsList-from_range}
+use Rattle.message.proofs.OneKind.{all_told}
+use Rattle.message.specs.Forms.{is_kind}
 use Rattle.message.proofs.telling.all_kind.Goals as goal
-
-pub loop-i-init : goal.loop-i-init
-loop-i-init c =
-    let e : (c.args.first + c.args.n) - c.args.first ≡ c.args.n = omega arith in
-    ap (all_kind c.args.kind c.args.message.now c.args.first) e
-
-pub loop-i-preserved : goal.loop-i-preserved
-loop-i-preserved c =
-    let less : c.loop-i.i < c.args.first + c.args.n = omega arith in
-    kind_passed c.args.kind c.args.message.now c.loop-i.i (c.args.first + c.args.n) less (sym c.is_kind.ensures ∙ c.if-not-is_kind.false) c.loop-i.invariant
-
-pub returns-then-not-is_kind : goal.returns-then-not-is_kind
-returns-then-not-is_kind c =
-    let less : c.loop-i.i < c.args.first + c.args.n = omega arith in
-    kind_failed c.args.kind c.args.message.now c.loop-i.i (c.args.first + c.args.n) less (sym c.is_kind.ensures ∙ c.if-not-is_kind.true) c.loop-i.invariant
 
 pub returns : goal.returns
 returns c =
-    let more : c.args.first + c.args.n ≤ c.loop-i.i = omega arith in
-    kinds_end c.args.kind c.args.message.now c.loop-i.i (c.args.first + c.args.n) more c.loop-i.invariant
+    let first = c.args.first in
+    let test = is_kind c.args.kind c.args.message.now in
+    all_told c.args.kind c.args.message.now first c.args.n c.all.result
+    (cases_from_all _ _ _ (λ i. test i ≡ true) (λ i. test i ≡ false) c.all.ensures.ran (YieldsList-from_range first (first + c.args.n) c.args.n (search rules) (omega arith))
+    (λ x q call. search (rules, tests)) (λ x q call. search (rules, tests)))
