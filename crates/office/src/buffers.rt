@@ -1,12 +1,12 @@
 //! The buffers of a call: an output of at least 880 bytes, and a board of sixteen, which is zero once the call returns.
-ghost use Rattle.std.specs.Prelude.{◌≡◌, ◌≤◌, length, Ok, OnOk};
+ghost use Rattle.std.specs.Prelude.{◌≡◌, ◌≤◌, length, OnOk};
 ghost use Rattle.message.specs.Checks.{fitted as buffers_fitted};
-ghost use Rattle.office.specs.Calls.{board_after, fits_first};
+ghost use Rattle.office.specs.Calls.{board_after};
 ghost use Rattle.office.specs.Taking.{in_certificate};
 
 use message::board::Counting;
 use message::reading::fitting;
-use message::{CertificateFault, SiteFault};
+use message::CertificateFault;
 
 /// SHORT, and then the board with zeros, whatever it had.
 pub(crate) fn ready(room: usize, board: &mut [u8]) -> Result<(), CertificateFault>
@@ -16,15 +16,5 @@ pub(crate) fn ready(room: usize, board: &mut [u8]) -> Result<(), CertificateFaul
 {
     fitting(room, board.len())?;
     let _counting = Counting { board };
-    Ok(())
-}
-
-/// The same, one layer up.
-pub(crate) fn admit(room: usize, board: &mut [u8]) -> Result<(), SiteFault>
-    ensures value { result ≡ fits_first room (length board.old) (Ok tt) }
-    ensures board { board.new ≡ board_after room board.old }
-    ensures room { OnOk result (880 ≤ room) }
-{
-    ready(room, board)?;
     Ok(())
 }

@@ -8,7 +8,7 @@ use message::Refusal;
 use message::limits::HIGHEST_FAULTY;
 use record::limits::HIGHEST_CLIENT;
 
-/// Whether f lies from 1 to 5, and the client from 0 to 15.
+/// Whether f lies from 1 to 5, and the client from 0 to 15. A site's figures have another bound, so each has its own test.
 fn fit(f: u8, client: u8) -> bool
     ensures { result ≡ fit_figures f client }
 {
@@ -22,11 +22,7 @@ pub fn check_figures(f: u8, client: u8) -> Result<(), Refusal>
     if fit(f, client) {
         Ok(())
     } else {
-        Err(Refusal {
-            number: 4,
-            index: 0,
-            layer: 3,
-        })
+        Err(Refusal::UNFIT)
     }
 }
 

@@ -3,7 +3,7 @@ ghost use Rattle.std.specs.Prelude.{◌≡◌, ◌≤◌, length, IfOk, OnOk};
 ghost use Rattle.office.specs.Calls.{board_after, fits_first, number_begun, if_begun, Leaves, begin_call, query_call};
 ghost use Rattle.office.specs.Tickets.{GoodTicket};
 
-use crate::buffers::{admit, ready};
+use crate::buffers::ready;
 use crate::office::Office;
 use crate::ticket::{Begun, Ticket};
 use crate::writing::put;
@@ -66,7 +66,7 @@ impl<N: Notary> Office<N> {
         ensures stays { self.new.desk.write ≡ self.old.desk.write }
         ensures same { (self.new.notary ≡ self.old.notary) × (self.new.figures ≡ self.old.figures) }
     {
-        admit(output.len(), board)?;
+        ready(output.len(), board)?;
         self.desk.ask(operation, nonce);
         put(
             output,

@@ -6,7 +6,6 @@ ghost use Rattle.std.specs.Prelude.{◌≡◌, IfOk, Ok};
 
 use crate::office::Office;
 use crate::ticket::{Ticket, Unspent};
-use message::Refusal;
 use notary::Notary;
 
 impl<N: Notary> Office<N> {
@@ -30,7 +29,7 @@ impl<N: Notary> Office<N> {
             }
             Err(fault) => Err(Unspent {
                 ticket,
-                refusal: Refusal::of(fault),
+                refusal: fault.into(),
             }),
         }
     }
@@ -51,7 +50,7 @@ impl<N: Notary> Office<N> {
             }
             Err(fault) => Err(Unspent {
                 ticket,
-                refusal: Refusal::of(fault),
+                refusal: fault.into(),
             }),
         }
     }

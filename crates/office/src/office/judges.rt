@@ -6,7 +6,7 @@ ghost use Rattle.office.specs.Sending.{Worth, ReadingWorth};
 ghost use Rattle.record.specs.declared.kind.Kind.TheVariants.{Answer as an_answer, ReadAnswer as a_read_answer};
 ghost use Rattle.std.specs.Prelude.{take, IfOk};
 
-use crate::buffers::admit;
+use crate::buffers::ready;
 use crate::judging::{judge, judge_reading};
 use crate::office::Office;
 use crate::verdict::Judged;
@@ -20,7 +20,7 @@ impl<N: Notary> Office<N> {
         ensures leaves { Leaves (judge_call self.now.figures.f self.now.figures.client self.now.desk output.old board.old) self.now.desk output.new board.new result }
         ensures right { IfOk result (λ j. Warranted (quorum_of self.now.figures.f) self.now.figures.client self.now.desk.write self.now.desk.replies.at j.verdict (judge_write self.now.figures.f self.now.figures.client self.now.desk).sites) }
     {
-        admit(output.len(), board)?;
+        ready(output.len(), board)?;
         let slots = self.desk.replies.view();
         let found = judge(
             quorum(self.figures.f),
@@ -57,7 +57,7 @@ impl<N: Notary> Office<N> {
         ensures leaves { Leaves (judge_reading_call self.now.figures.f self.now.desk output.now board.old) self.now.desk output.now board.new result }
         ensures right { IfOk result (λ j. ReadingWarranted (quorum_of self.now.figures.f) self.now.desk.readings.at j.verdict) }
     {
-        admit(output.len(), board)?;
+        ready(output.len(), board)?;
         Ok(Judged {
             verdict: judge_reading(quorum(self.figures.f), self.desk.readings.view()),
             count: 0,
