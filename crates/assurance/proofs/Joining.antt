@@ -6,7 +6,7 @@ use Rattle.std.specs.Str.{bytes_eq}
 use Rattle.std.proofs.lemmas.Slice.Eq.{bytes_eq-Decides}
 use Rattle.std.proofs.lemmas.Bool.{false≢true, and_parts, eqb-true}
 use Rattle.finder.specs.Law.{Pairs}
-use Rattle.object.specs.Rules.{Rules, Held}
+use Rattle.object.specs.Rules.{Rules}
 use Rattle.message.specs.Forms.{quorum}
 use Rattle.message.specs.declared.refusal.Refusal.{Refusal}
 use Rattle.record.proofs.Facts.{alike_equivalence}
@@ -131,7 +131,7 @@ transcript_begins in_a (more {c = e} {l = life} b) =
 -- From slots to words --------------------------------------------------------------------------------------------
 
 module _ (R : Rules) (f client : ℕ) (accepts : List ℕ → Bool) (desk : Desk) (sound_desk : Sound f client accepts desk)
-    (sound : ℕ → Bool) (first : R.Value) (before : ℕ → Held R.Value) (life : List Event) where
+    (sound : ℕ → Bool) (first : R.Value) (before : ℕ → Option R.Value) (life : List Event) where
   abbrev in_a : Setting R
   in_a = setting R f sound accepts first before
 

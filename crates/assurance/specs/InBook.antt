@@ -1,6 +1,6 @@
 -- What an office is told is what the pool's book has.
-use Rattle.std.specs.Prelude.{◌≡◌, ℕ, ◌≤◌, Bool, true, List, Some, MatchOption}
-use Rattle.object.specs.Rules.{Rules, Held}
+use Rattle.std.specs.Prelude.{◌≡◌, ℕ, ◌≤◌, Bool, true, List, Some, MatchOption, Option}
+use Rattle.object.specs.Rules.{Rules}
 use Rattle.record.specs.Layout.{record_bytes}
 use Rattle.record.specs.declared.fields.Record.{Record}
 use Rattle.protocol.specs.Book.{Confirmed, ConfirmedReading, Begins}
@@ -65,14 +65,14 @@ module _ {R : Rules} (in_a : Setting R) (life : List Event) where
 -- life of it under the premises in which sound sites wrote what the office has filed from them.
 abbrev pub WriteInBook : Rules → ℕ → ℕ → (List ℕ → Bool) → Desk → ℕ → Type 0
 WriteInBook R f client accepts desk answer =
-    (sound : ℕ → Bool) (first : R.Value) (before : ℕ → Held R.Value) (life : List Event) →
+    (sound : ℕ → Bool) (first : R.Value) (before : ℕ → Option R.Value) (life : List Event) →
     Premises (setting R f sound accepts first before) life → FiledAsWritten (setting R f sound accepts first before) life desk.replies.at →
     MatchOption desk.write ⊥ (WriteStands (setting R f sound accepts first before) life client answer)
 
 -- And an answer that it is told to its question is that of the book.
 abbrev pub ReadingInBook : Rules → ℕ → ℕ → (List ℕ → Bool) → Desk → ℕ → Type 0
 ReadingInBook R f client accepts desk answer =
-    (sound : ℕ → Bool) (first : R.Value) (before : ℕ → Held R.Value) (life : List Event) →
+    (sound : ℕ → Bool) (first : R.Value) (before : ℕ → Option R.Value) (life : List Event) →
     Premises (setting R f sound accepts first before) life → FiledAsWritten (setting R f sound accepts first before) life desk.readings.at →
     MatchOption desk.question ⊥ (λ asked. ReadingStands (setting R f sound accepts first before) life answer (asked_by client asked))
 

@@ -1,8 +1,7 @@
 // One object alone, without a pool, and the requests and questions that its clients put to it.
 ghost use Rattle.console.specs.Requests.{next_number};
-ghost use Rattle.object.specs.Rules.{has, or_else};
 ghost use Rattle.record.specs.Claims.{request, question};
-ghost use Rattle.std.specs.Prelude.{◌≡◌, slice_set};
+ghost use Rattle.std.specs.Prelude.{◌≡◌, slice_set, is_some, unwrap_or};
 
 use object::Object;
 use record::{Operation, Statement};
@@ -76,8 +75,8 @@ impl<O: Object> Bench<O> {
 
     // Takes the last write back, if there is one.
     pub fn take_back(&mut self) -> bool
-        ensures said { result ≡ has (O.Object.before self.old.object) }
-        ensures after { O.Object.value self.new.object ≡ or_else (O.Object.before self.old.object) (O.Object.value self.old.object) }
+        ensures said { result ≡ is_some (O.Object.before self.old.object) }
+        ensures after { O.Object.value self.new.object ≡ unwrap_or (O.Object.before self.old.object) (O.Object.value self.old.object) }
     {
         self.object.take_back()
     }

@@ -1,11 +1,11 @@
 -- The laws of slots.
-use Rattle.std.proofs.Common.{◌≡◌, ℕ, ◌+◌, ◌-◌, ◌<◌, ◌≤◌, Bool, true, false, cond, not, ◌&&◌, eqb, leb, List, length, set, sym, refl, ap, ◌∙◌, subst, inl, inr, arith, length-set}
+use Rattle.std.proofs.Common.{◌≡◌, ℕ, ◌+◌, ◌-◌, ◌<◌, ◌≤◌, Bool, true, false, cond, not, ◌&&◌, eqb, leb, List, length, set, Ok, Err, Result, sym, refl, ap, ◌∙◌, subst, inl, inr, arith, length-set}
 use Rattle.object.specs.Accounts.{holding, less, more, moved}
 use Rattle.object.specs.Rules.{code}
 use Rattle.object.specs.Slots.{account, acted, amount, judged, number, slots_next, slots_rules}
 use Rattle.object.specs.SlotsLaws.{AmountTo, TotalNeverChanges, OnlyTheWriterPays, MoveToOneselfChangesNothing}
-use Rattle.object.specs.declared.slots.Answer.{Answer}
-use Rattle.object.specs.declared.slots.Answer.TheVariants.{Done, OutOfRange, TooFew}
+use Rattle.object.specs.declared.slots.Fault.{Fault}
+use Rattle.object.specs.declared.slots.Fault.TheVariants.{OutOfRange, TooFew}
 use Rattle.std.proofs.lemmas.List.{get_or-set_same, get_or-set_other, set-get_or, set_past, set-set}
 use Rattle.std.proofs.lemmas.Bool.{and_parts, cases_eq, cases_lt, leb-true}
 use Rattle.object.proofs.Runs.{run_keeps}
@@ -17,12 +17,15 @@ record SoundMove (accounts : List ℕ) (from to n : ℕ) : Type 0 where
   takes : to ≤ 15
   enough : n ≤ holding accounts from
 
-both_passed : (x y : Bool) → cond (not x) OutOfRange (cond (not y) TooFew Done) ≡ Done → (x ≡ true) × (y ≡ true)
+abbrev tested : Bool → Bool → Result (Unit {0}) Fault
+tested x y = cond (not x) (Err OutOfRange) (cond (not y) (Err TooFew) (Ok tt))
+
+both_passed : (x y : Bool) → tested x y ≡ Ok tt → (x ≡ true) × (y ≡ true)
 both_passed true true e = (refl, refl)
 both_passed true false e = let n : ◌≡◌ {A = ℕ} 2 0 = ap number e in absurd (omega arith)
 both_passed false y e = let n : ◌≡◌ {A = ℕ} 1 0 = ap number e in absurd (omega arith)
 
-sound_move : (accounts : List ℕ) (from to n : ℕ) → judged accounts from to n ≡ Done → SoundMove accounts from to n
+sound_move : (accounts : List ℕ) (from to n : ℕ) → judged accounts from to n ≡ Ok tt → SoundMove accounts from to n
 sound_move accounts from to n done =
     let p = both_passed (leb from 15 && leb to 15) (leb n (holding accounts from)) done in
     let q = and_parts (leb from 15) (leb to 15) p.0 in
@@ -35,10 +38,9 @@ sound_move accounts from to n done =
 -- What holds of the accounts as they were, and of the accounts after any sound move, holds after a write.
 module _ (P : List ℕ → Type 0) (accounts : List ℕ) (from to n : ℕ) (same : P accounts)
     (after : SoundMove accounts from to n → P (moved accounts from to n)) where
-  by_answer : (x : Answer) → judged accounts from to n ≡ x → P (acted x accounts from to n)
-  by_answer Done e = after (sound_move accounts from to n e)
-  by_answer OutOfRange e = same
-  by_answer TooFew e = same
+  by_answer : (x : Result (Unit {0}) Fault) → judged accounts from to n ≡ x → P (acted x accounts from to n)
+  by_answer (Ok _) e = after (sound_move accounts from to n e)
+  by_answer (Err fault) e = same
 
   by_code : (b : Bool) → P (cond b accounts (acted (judged accounts from to n) accounts from to n))
   by_code true = same

@@ -1,13 +1,12 @@
 -- The laws of titles.
-use Rattle.std.proofs.Common.{◌≡◌, ℕ, ◌≤◌, true, leb, ◌⊎◌, List, [], ◌∷◌, length, set, Some, sym, ap, ◌∙◌, subst, inl, inr, arith}
+use Rattle.std.proofs.Common.{◌≡◌, ℕ, ◌≤◌, true, leb, ◌⊎◌, List, [], ◌∷◌, length, set, Some, None, Ok, sym, ap, ◌∙◌, subst, inl, inr, arith}
 use Rattle.object.specs.Calls.{called}
-use Rattle.object.specs.Rules.{nothing, code}
+use Rattle.object.specs.Rules.{code}
 use Rattle.object.specs.Titles.{titles_first, titles_rules, act, judged, answer_of, number, outcome, receiver, title, state, in_range, right_state, entitled, titles_answer, titles_next}
 use Rattle.object.specs.TitlesLaws.{OnlyItsHolderMovesATitle, OnlyClient0Issues, SurrenderedStays, SurrenderedForGood, HoldersAreClients}
 use Rattle.object.specs.declared.calls.Call.TheVariants.{Perform, TakeBack}
 use Rattle.object.specs.declared.titles.Act.{Act}
 use Rattle.object.specs.declared.titles.Act.TheVariants.{Issue, Transfer, Surrender}
-use Rattle.object.specs.declared.titles.Answer.TheVariants.{Done}
 use Rattle.object.specs.declared.titles.Title.{Title}
 use Rattle.object.specs.declared.titles.Title.TheVariants.{Unissued, HeldBy, Surrendered}
 use Rattle.std.proofs.lemmas.List.{get_or_past, get_or-replicate, get_or-set_other, get_or-set_same, set_past}
@@ -23,10 +22,10 @@ module _ (titles : List Title) (client : ℕ) (operation : List ℕ) (k : ℕ) w
       (right_state c.did_act (state titles k))
       (entitled c.did_act client (state titles k))
   passed c =
-      done_passed _ _ _ (subst (λ i. judged titles c.did_act client i (receiver operation) ≡ Done) c.named c.judged_done)
+      done_passed _ _ _ (subst (λ i. judged titles c.did_act client i (receiver operation) ≡ Ok tt) c.named c.judged_done)
 
   change_answered : Change titles client operation (titles_next titles client operation) k →
-      titles_answer titles client operation ≡ number Done
+      titles_answer titles client operation ≡ number (Ok tt)
   change_answered c =
       ap (λ o. answer_of o titles client operation) c.asked ∙ ap number c.judged_done
 
@@ -181,7 +180,7 @@ unfolding KnownHolders
 holders_are_clients calls =
     (run_keeps titles_rules KnownHolders
     (λ titles client operation. known_after titles client operation _ (written titles client operation))
-    (record { value = titles_first; before = nothing })
+    (record { value = titles_first; before = None })
     calls
     (record { here = first_known; earlier = tt })
     ).here

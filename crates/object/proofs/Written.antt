@@ -1,11 +1,11 @@
 -- What one write does to the titles.
-use Rattle.std.proofs.Common.{◌≡◌, ℕ, ◌≤◌, Bool, true, false, cond, not, List, length, set, Some, None, Option, sym, refl, ap, inl, inr, arith}
+use Rattle.std.proofs.Common.{◌≡◌, ℕ, ◌≤◌, Bool, true, false, cond, not, List, length, set, Some, None, Ok, Err, Option, Result, sym, refl, ap, inl, inr, arith}
 use Rattle.object.specs.Rules.{code}
 use Rattle.object.specs.Titles.{act, acted, judged, next_of, number, outcome, receiver, state, title, titles_next}
 use Rattle.object.specs.declared.titles.Act.{Act}
 use Rattle.object.specs.declared.titles.Act.TheVariants.{Issue, Transfer, Surrender}
-use Rattle.object.specs.declared.titles.Answer.{Answer}
-use Rattle.object.specs.declared.titles.Answer.TheVariants.{Done, OutOfRange, NotEntitled, WrongState}
+use Rattle.object.specs.declared.titles.Fault.{Fault}
+use Rattle.object.specs.declared.titles.Fault.TheVariants.{OutOfRange, NotEntitled, WrongState}
 use Rattle.object.specs.declared.titles.Title.{Title}
 use Rattle.object.specs.declared.titles.Title.TheVariants.{Unissued}
 use Rattle.std.proofs.lemmas.List.{get_or-set_same, get_or-set_other, set_past}
@@ -18,8 +18,10 @@ pub record Passed (x y z : Bool) : Type 0 where
   pub right : y ≡ true
   pub may : z ≡ true
 
-pub done_passed : (x y z : Bool) →
-    cond (not x) OutOfRange (cond (not y) WrongState (cond (not z) NotEntitled Done)) ≡ Done → Passed x y z
+abbrev tested : Bool → Bool → Bool → Result (Unit {0}) Fault
+tested x y z = cond (not x) (Err OutOfRange) (cond (not y) (Err WrongState) (cond (not z) (Err NotEntitled) (Ok tt)))
+
+pub done_passed : (x y z : Bool) → tested x y z ≡ Ok tt → Passed x y z
 done_passed true true true e = record { range = refl; right = refl; may = refl }
 done_passed true true false e = let n : ◌≡◌ {A = ℕ} 2 0 = ap number e in absurd (omega arith)
 done_passed true false z e = let n : ◌≡◌ {A = ℕ} 3 0 = ap number e in absurd (omega arith)
@@ -30,18 +32,16 @@ pub data Written (titles : List Title) (client : ℕ) (operation : List ℕ) : L
   kept : Written titles client operation titles
   did : (a : Act) →
       act (code operation) ≡ Some a →
-      judged titles a client (title operation) (receiver operation) ≡ Done →
+      judged titles a client (title operation) (receiver operation) ≡ Ok tt →
       Written titles client operation (set titles (title operation) (outcome a (receiver operation)))
 
 module _ (titles : List Title) (client : ℕ) (operation : List ℕ) where
-  by_answer : (a : Act) (x : Answer) →
+  by_answer : (a : Act) (x : Result (Unit {0}) Fault) →
       act (code operation) ≡ Some a →
       judged titles a client (title operation) (receiver operation) ≡ x →
       Written titles client operation (acted x titles a (title operation) (receiver operation))
-  by_answer a Done asked e = did a asked e
-  by_answer a OutOfRange asked e = kept
-  by_answer a NotEntitled asked e = kept
-  by_answer a WrongState asked e = kept
+  by_answer a (Ok _) asked e = did a asked e
+  by_answer a (Err fault) asked e = kept
 
   by_act : (o : Option Act) →
       act (code operation) ≡ o → Written titles client operation (next_of o titles client operation)
@@ -55,7 +55,7 @@ module _ (titles : List Title) (client : ℕ) (operation : List ℕ) where
 pub record Change (titles : List Title) (client : ℕ) (operation : List ℕ) (next : List Title) (k : ℕ) : Type 0 where
   pub did_act : Act
   pub asked : act (code operation) ≡ Some did_act
-  pub judged_done : judged titles did_act client (title operation) (receiver operation) ≡ Done
+  pub judged_done : judged titles did_act client (title operation) (receiver operation) ≡ Ok tt
   pub named : title operation ≡ k
   pub becomes : state next k ≡ outcome did_act (receiver operation)
 

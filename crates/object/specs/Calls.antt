@@ -1,17 +1,17 @@
 -- Calls of an object, one after another, and what it means after them.
-use Rattle.std.specs.Prelude.{◌≡◌, ℕ, true, false, cond, List, [], ◌∷◌, ◌≢◌}
+use Rattle.std.specs.Prelude.{◌≡◌, ℕ, true, false, cond, List, [], ◌∷◌, Some, None, Option, IfSome, unwrap_or, ◌≢◌}
 use Rattle.object.specs.Kept.{unknown_code}
-use Rattle.object.specs.Rules.{Rules, Held, held, nothing, fit, or_else}
+use Rattle.object.specs.Rules.{Rules, fit}
 use Rattle.object.specs.declared.calls.Call.{Call}
 use Rattle.object.specs.declared.calls.Call.TheVariants.{Perform, TakeBack}
 
 -- What an object means at one moment: its value, and the value before the last write.
 pub record Moment (V : Type 0) : Type 0 where
   pub value : V
-  pub before : Held V
+  pub before : Option V
 
 -- The moment of an object, by its value and what it remembers.
-abbrev pub moment : {S V : Type 0} → (S → V) → (S → Held V) → S → Moment V
+abbrev pub moment : {S V : Type 0} → (S → V) → (S → Option V) → S → Moment V
 moment value before object = record { value = value object; before = before object }
 
 -- The object after one call.
@@ -19,9 +19,9 @@ abbrev pub called : (r : Rules) → Moment r.Value → Call → Moment r.Value
 called r m (Perform client operation) =
     record {
       value = r.next m.value client operation;
-      before = cond (fit r.highest operation) (held m.value) m.before;
+      before = cond (fit r.highest operation) (Some m.value) m.before;
     }
-called r m TakeBack = record { value = or_else m.before m.value; before = nothing }
+called r m TakeBack = record { value = unwrap_or m.before m.value; before = None }
 
 -- The object after a list of calls.
 abbrev pub run : (r : Rules) → Moment r.Value → List Call → Moment r.Value
@@ -35,13 +35,9 @@ Performs (Perform client operation ∷ cs) = Performs cs
 Performs (TakeBack ∷ cs) = ⊥
 
 -- Something holds of the value, and of the remembered value where there is one.
-abbrev pub IfHeld : {V : Type 0} → (V → Type 0) → Held V → Type 0
-IfHeld P nothing = Unit {0}
-IfHeld P (held v) = P v
-
 pub record Throughout {V : Type 0} (P : V → Type 0) (m : Moment V) : Type 0 where
   pub here : P m.value
-  pub earlier : IfHeld P m.before
+  pub earlier : IfSome m.before P
 
 -- An operation whose code the object does not know changes neither the value nor what is remembered, and
 -- gets the answer that says so.
@@ -65,7 +61,7 @@ RefusedMovesNothing r =
 pub record Undone (r : Rules) (m : Moment r.Value) : Type 0 where
   pub restores : (client : ℕ) (operation : List ℕ) →
       fit r.highest operation ≡ true →
-      called r (called r m (Perform client operation)) TakeBack ≡ record { value = m.value; before = nothing }
+      called r (called r m (Perform client operation)) TakeBack ≡ record { value = m.value; before = None }
   pub once : called r (called r m TakeBack) TakeBack ≡ called r m TakeBack
 
 abbrev pub TakeBackUndoes : Rules → Type 0

@@ -1,5 +1,5 @@
 -- What an object means: its values, and what each call does to them.
-use Rattle.std.specs.Prelude.{ℕ, Bool, true, false, ◌&&◌, List, nat_le, nat_lt, slice_index}
+use Rattle.std.specs.Prelude.{ℕ, Bool, ◌&&◌, List, nat_le, nat_lt, slice_index}
 
 -- The meaning of one kind of object. A call is described by the value now, the client's number and the
 -- sixteen bytes of the operation, and by nothing else.
@@ -15,11 +15,6 @@ pub record Rules : Type 1 where
   -- the highest operation code that the object knows
   pub highest : ℕ
 
--- A value that may be there: the value before the last write, until it is taken back.
-pub data Held (V : Type 0) : Type 0 where
-  nothing : Held V
-  held : V → Held V
-
 -- An operation's code is its first byte.
 abbrev pub code : List ℕ → ℕ
 code operation = slice_index operation 0
@@ -27,13 +22,3 @@ code operation = slice_index operation 0
 -- An operation is fit where its code lies from 1 to the highest.
 abbrev pub fit : ℕ → List ℕ → Bool
 fit highest operation = nat_lt 0 (code operation) && nat_le (code operation) highest
-
--- Whether a value is there.
-abbrev pub has : {V : Type 0} → Held V → Bool
-has nothing = false
-has (held v) = true
-
--- The value that is there, or else another.
-abbrev pub or_else : {V : Type 0} → Held V → V → V
-or_else nothing v = v
-or_else (held w) v = w

@@ -2,13 +2,13 @@
 --
 -- An operation has its code in byte 0, an account in byte 1 and an amount in bytes 2 to 5, high byte first.
 -- Code 1 moves the amount from the writer's account to that account. A client's number is its account.
-use Rattle.std.specs.Prelude.{ℕ, ◌+◌, ◌*◌, cond, not, ◌&&◌, List, Some, None, Option, ◌==◌, nat_le, slice_index}
-use Rattle.object.specs.Rules.{Rules, Held, code}
+use Rattle.std.specs.Prelude.{ℕ, ◌+◌, ◌*◌, cond, not, ◌&&◌, List, Some, None, Ok, Err, Option, Result, option_map, ◌==◌, nat_le, slice_index}
+use Rattle.object.specs.Rules.{Rules, code}
 use Rattle.object.specs.Accounts.{holding, moved}
-use Rattle.object.specs.Kept.{unknown_code, out_of_reach, remembered}
+use Rattle.object.specs.Kept.{unknown_code, out_of_reach}
 use Rattle.object.specs.declared.slots.Slots.{Slots}
-use Rattle.object.specs.declared.slots.Answer.{Answer}
-use Rattle.object.specs.declared.slots.Answer.TheVariants.{Done, OutOfRange, TooFew}
+use Rattle.object.specs.declared.slots.Fault.{Fault}
+use Rattle.object.specs.declared.slots.Fault.TheVariants.{OutOfRange, TooFew}
 
 -- The highest code.
 abbrev pub slots_highest : ℕ
@@ -22,22 +22,24 @@ abbrev pub amount : List ℕ → ℕ
 amount operation =
     slice_index operation 2 * 16777216 + slice_index operation 3 * 65536 + slice_index operation 4 * 256 + slice_index operation 5
 
--- The number of each answer.
-abbrev pub number : Answer → ℕ
-number Done = 0
-number OutOfRange = 1
-number TooFew = 2
+-- The number of each fault, and that of an answer: 0 where the move is done.
+abbrev pub fault_number : Fault → ℕ
+fault_number OutOfRange = 1
+fault_number TooFew = 2
+
+abbrev pub number : Result (Unit {0}) Fault → ℕ
+number (Ok _) = 0
+number (Err fault) = fault_number fault
 
 -- The answer to a move: the first test that fails decides it.
-abbrev pub judged : List ℕ → ℕ → ℕ → ℕ → Answer
+abbrev pub judged : List ℕ → ℕ → ℕ → ℕ → Result (Unit {0}) Fault
 judged accounts from to n =
-    cond (not (nat_le from 15 && nat_le to 15)) OutOfRange (cond (not (nat_le n (holding accounts from))) TooFew Done)
+    cond (not (nat_le from 15 && nat_le to 15)) (Err OutOfRange) (cond (not (nat_le n (holding accounts from))) (Err TooFew) (Ok tt))
 
 -- The accounts after a move that is answered so: the amount moves where the answer is done.
-abbrev pub acted : Answer → List ℕ → ℕ → ℕ → ℕ → List ℕ
-acted Done accounts from to n = moved accounts from to n
-acted OutOfRange accounts from to n = accounts
-acted TooFew accounts from to n = accounts
+abbrev pub acted : Result (Unit {0}) Fault → List ℕ → ℕ → ℕ → ℕ → List ℕ
+acted (Ok _) accounts from to n = moved accounts from to n
+acted (Err fault) accounts from to n = accounts
 
 -- The answer to a write, and the accounts after it. An unknown code changes nothing.
 abbrev pub slots_answer : List ℕ → ℕ → List ℕ → ℕ
@@ -68,5 +70,5 @@ balance_at accounts k = cond (nat_le k 15) (Some (holding accounts k)) None
 abbrev pub slots_value : Slots → List ℕ
 slots_value s = s.history.value.balances
 
-abbrev pub slots_before : Slots → Held (List ℕ)
-slots_before s = remembered (λ accounts. accounts.balances) s.history.earlier
+abbrev pub slots_before : Slots → Option (List ℕ)
+slots_before s = option_map (λ accounts. accounts.balances) s.history.earlier

@@ -2,16 +2,16 @@
 --
 -- An operation has its code in byte 0, the title in byte 1 and the receiver in byte 2. Code 1 issues the
 -- title to the receiver, code 2 transfers it to the receiver, code 3 surrenders it.
-use Rattle.std.specs.Prelude.{ℕ, Bool, true, false, cond, not, ◌&&◌, List, replicate, Some, None, Option, ◌==◌, nat_le, slice_index, slice_index_or, slice_set}
-use Rattle.object.specs.Rules.{Rules, Held, code}
-use Rattle.object.specs.Kept.{unknown_code, out_of_reach, remembered}
+use Rattle.std.specs.Prelude.{ℕ, Bool, true, false, cond, not, ◌&&◌, List, replicate, Some, None, Ok, Err, Option, Result, ◌==◌, nat_le, slice_index, slice_index_or, slice_set}
+use Rattle.object.specs.Rules.{Rules, code}
+use Rattle.object.specs.Kept.{unknown_code, out_of_reach}
 use Rattle.object.specs.declared.titles.Titles.{Titles}
 use Rattle.object.specs.declared.titles.Title.{Title}
 use Rattle.object.specs.declared.titles.Title.TheVariants.{Unissued, HeldBy, Surrendered}
 use Rattle.object.specs.declared.titles.Act.{Act}
 use Rattle.object.specs.declared.titles.Act.TheVariants.{Issue, Transfer, Surrender}
-use Rattle.object.specs.declared.titles.Answer.{Answer}
-use Rattle.object.specs.declared.titles.Answer.TheVariants.{Done, OutOfRange, NotEntitled, WrongState}
+use Rattle.object.specs.declared.titles.Fault.{Fault}
+use Rattle.object.specs.declared.titles.Fault.TheVariants.{OutOfRange, NotEntitled, WrongState}
 
 -- The first value: 64 titles, all unissued.
 abbrev pub titles_first : List Title
@@ -36,12 +36,15 @@ state titles k = slice_index_or titles k Unissued
 abbrev pub act : ℕ → Option Act
 act c = cond (c == 1) (Some Issue) (cond (c == 2) (Some Transfer) (cond (c == 3) (Some Surrender) None))
 
--- The number of each answer.
-abbrev pub number : Answer → ℕ
-number Done = 0
-number OutOfRange = 1
-number NotEntitled = 2
-number WrongState = 3
+-- The number of each fault, and that of an answer: 0 where the act is done.
+abbrev pub fault_number : Fault → ℕ
+fault_number OutOfRange = 1
+fault_number NotEntitled = 2
+fault_number WrongState = 3
+
+abbrev pub number : Result (Unit {0}) Fault → ℕ
+number (Ok _) = 0
+number (Err fault) = fault_number fault
 
 -- Titles are numbered from 0 to 63, receivers from 0 to 15; a surrender has no receiver.
 abbrev pub in_range : Act → ℕ → ℕ → Bool
@@ -77,11 +80,11 @@ entitled Transfer client t = holds client t
 entitled Surrender client t = holds client t
 
 -- The answer to an act: the first test that fails decides it.
-abbrev pub judged : List Title → Act → ℕ → ℕ → ℕ → Answer
+abbrev pub judged : List Title → Act → ℕ → ℕ → ℕ → Result (Unit {0}) Fault
 judged titles a client k to =
-    cond (not (in_range a k to)) OutOfRange
-    (cond (not (right_state a (state titles k))) WrongState
-    (cond (not (entitled a client (state titles k))) NotEntitled Done))
+    cond (not (in_range a k to)) (Err OutOfRange)
+    (cond (not (right_state a (state titles k))) (Err WrongState)
+    (cond (not (entitled a client (state titles k))) (Err NotEntitled) (Ok tt)))
 
 -- The state that an act gives its title.
 abbrev pub outcome : Act → ℕ → Title
@@ -90,11 +93,9 @@ outcome Transfer to = HeldBy to
 outcome Surrender to = Surrendered
 
 -- The titles after an act that is answered so: the one title moves where the answer is done.
-abbrev pub acted : Answer → List Title → Act → ℕ → ℕ → List Title
-acted Done titles a k to = slice_set titles k (outcome a to)
-acted OutOfRange titles a k to = titles
-acted NotEntitled titles a k to = titles
-acted WrongState titles a k to = titles
+abbrev pub acted : Result (Unit {0}) Fault → List Title → Act → ℕ → ℕ → List Title
+acted (Ok _) titles a k to = slice_set titles k (outcome a to)
+acted (Err fault) titles a k to = titles
 
 -- The answer to a write, and the titles after it. An unknown code changes nothing.
 abbrev pub answer_of : Option Act → List Title → ℕ → List ℕ → ℕ
@@ -136,5 +137,5 @@ title_at titles k = cond (nat_le k 63) (Some (state titles k)) None
 abbrev pub titles_value : Titles → List Title
 titles_value t = t.history.value
 
-abbrev pub titles_before : Titles → Held (List Title)
-titles_before t = remembered (λ titles. titles) t.history.earlier
+abbrev pub titles_before : Titles → Option (List Title)
+titles_before t = t.history.earlier

@@ -1,10 +1,9 @@
 -- What holds of titles, whatever is done with them.
-use Rattle.std.specs.Prelude.{◌≡◌, ℕ, ◌≤◌, ◌⊎◌, List, ◌≢◌}
+use Rattle.std.specs.Prelude.{◌≡◌, ℕ, ◌≤◌, ◌⊎◌, List, None, Ok, ◌≢◌}
 use Rattle.object.specs.Calls.{Moment, run, Performs, Throughout}
-use Rattle.object.specs.Rules.{code, nothing}
+use Rattle.object.specs.Rules.{code}
 use Rattle.object.specs.Titles.{titles_first, titles_rules, titles_next, titles_answer, number, state, title, receiver}
 use Rattle.object.specs.declared.calls.Call.{Call}
-use Rattle.object.specs.declared.titles.Answer.TheVariants.{Done}
 use Rattle.object.specs.declared.titles.Title.{Title}
 use Rattle.object.specs.declared.titles.Title.TheVariants.{Unissued, HeldBy, Surrendered}
 
@@ -28,7 +27,7 @@ SurrenderedForGood =
 pub record MovedBy (titles : List Title) (client : ℕ) (operation : List ℕ) (k h : ℕ) : Type 0 where
   pub writer : client ≡ h
   pub named : title operation ≡ k
-  pub answered : titles_answer titles client operation ≡ number Done
+  pub answered : titles_answer titles client operation ≡ number (Ok tt)
   pub how :
       ((code operation ≡ 2) × (state (titles_next titles client operation) k ≡ HeldBy (receiver operation)))
       ⊎ ((code operation ≡ 3) × (state (titles_next titles client operation) k ≡ Surrendered))
@@ -45,7 +44,7 @@ OnlyItsHolderMovesATitle =
 pub record IssuedBy (titles : List Title) (client : ℕ) (operation : List ℕ) (k : ℕ) : Type 0 where
   pub writer : client ≡ 0
   pub named : title operation ≡ k
-  pub answered : titles_answer titles client operation ≡ number Done
+  pub answered : titles_answer titles client operation ≡ number (Ok tt)
   pub asked : code operation ≡ 1
   pub given : state (titles_next titles client operation) k ≡ HeldBy (receiver operation)
 
@@ -61,5 +60,5 @@ OnlyClient0Issues =
 abbrev pub HoldersAreClients : Type 0
 HoldersAreClients =
     (calls : List Call) (k h : ℕ) →
-    state (run titles_rules (record { value = titles_first; before = nothing }) calls).value k ≡ HeldBy h →
+    state (run titles_rules (record { value = titles_first; before = None }) calls).value k ≡ HeldBy h →
     h ≤ 15

@@ -1,5 +1,8 @@
 // The answers that every kind of object gives by one number.
 
+// The answer to a write that is done.
+pub const DONE: u64 = 0;
+
 // The answer to an operation whose code the object does not know.
 pub const UNKNOWN_CODE: u64 = 9_999_999;
 

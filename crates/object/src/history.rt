@@ -1,6 +1,7 @@
 // A value that remembers the one before it, so that the last write can be taken back, once.
-ghost use Rattle.std.specs.Prelude.{◌≡◌, is_some, Some, None};
-ghost use Rattle.std.specs.Option.{unwrap_or};
+ghost use Rattle.std.specs.Prelude.{◌≡◌, is_some, Some, None, unwrap_or};
+
+use std::mem;
 
 #[derive(Clone, Copy)]
 pub struct History<V> {
@@ -25,8 +26,7 @@ impl<V: Copy> History<V> {
         ensures value { self.new.value ≡ next }
         ensures earlier { self.new.earlier ≡ Some self.old.value }
     {
-        self.earlier = Some(self.value);
-        self.value = next;
+        self.earlier = Some(mem::replace(&mut self.value, next));
     }
 
     // Goes back to the value before the last write, and says whether there was one.
@@ -35,11 +35,10 @@ impl<V: Copy> History<V> {
         ensures value { self.new.value ≡ unwrap_or self.old.earlier self.old.value }
         ensures earlier { self.new.earlier ≡ None }
     {
-        let Some(earlier) = self.earlier else {
+        let Some(earlier) = self.earlier.take() else {
             return false;
         };
         self.value = earlier;
-        self.earlier = None;
         true
     }
 }

@@ -1,5 +1,5 @@
 // What holds of every object of a kind, whatever is done with it. Each function's contract is one law,
-// which the check proves; the functions compute nothing.
+// which the check proves; there is nothing to run.
 ghost use Rattle.object.specs.Calls.{UnknownCodeChangesNothing, RefusedMovesNothing, TakeBackUndoes};
 ghost use Rattle.object.specs.Slots.{slots_rules};
 ghost use Rattle.object.specs.SlotsLaws.{TotalNeverChanges, OnlyTheWriterPays, MoveToOneselfChangesNothing};
@@ -9,62 +9,46 @@ ghost use Rattle.object.specs.TitlesLaws.{SurrenderedStays, SurrenderedForGood, 
 use crate::Object;
 
 // A surrendered title stays surrendered.
-pub fn surrendered_stays() -> u8
+pub fn surrendered_stays()
     ensures performs { SurrenderedStays }
     ensures calls { SurrenderedForGood }
-{
-    0
-}
+{}
 
 // A title is moved by its holder, and issued by client 0.
-pub fn titles_move_by_right() -> u8
+pub fn titles_move_by_right()
     ensures held { OnlyItsHolderMovesATitle }
     ensures unissued { OnlyClient0Issues }
-{
-    0
-}
+{}
 
 // A holder is a client from 0 to 15.
-pub fn holders_are_clients() -> u8
+pub fn holders_are_clients()
     ensures { HoldersAreClients }
-{
-    0
-}
+{}
 
 // The total of the slots never changes.
-pub fn total_never_changes() -> u8
+pub fn total_never_changes()
     ensures { TotalNeverChanges }
-{
-    0
-}
+{}
 
 // Slots leave no account but the writer's, and a move to oneself changes nothing.
-pub fn only_the_writer_pays() -> u8
+pub fn only_the_writer_pays()
     ensures pays { OnlyTheWriterPays }
     ensures own { MoveToOneselfChangesNothing }
-{
-    0
-}
+{}
 
 // An operation of an unknown code changes nothing.
-pub fn unknown_code_changes_nothing() -> u8
+pub fn unknown_code_changes_nothing()
     ensures titles { UnknownCodeChangesNothing titles_rules }
     ensures slots { UnknownCodeChangesNothing slots_rules }
-{
-    0
-}
+{}
 
 // A write that is refused leaves the value as it was.
-pub fn refused_moves_nothing() -> u8
+pub fn refused_moves_nothing()
     ensures titles { RefusedMovesNothing titles_rules }
     ensures slots { RefusedMovesNothing slots_rules }
-{
-    0
-}
+{}
 
 // A take-back undoes the last write, once; this holds of every kind of object.
-pub fn take_back_undoes<O: Object>() -> u8
+pub fn take_back_undoes<O: Object>()
     ensures { TakeBackUndoes O.Object.rules }
-{
-    0
-}
+{}

@@ -9,8 +9,8 @@
 // that client is left to the caller.
 #![tactic(auto)]
 
-ghost use Rattle.object.specs.Rules.{Rules, Held, held, nothing, fit, has, or_else};
-ghost use Rattle.std.specs.Prelude.{◌≡◌, if◌then◌else◌};
+ghost use Rattle.object.specs.Rules.{Rules, fit};
+ghost use Rattle.std.specs.Prelude.{◌≡◌, ℕ, if◌then◌else◌, Some, None, Option, is_some, unwrap_or};
 
 mod accounts;
 pub mod answers;
@@ -28,28 +28,29 @@ pub trait Object {
     ghost value: { Self → rules.Value };
 
     // the value before the last write, until it is taken back
-    ghost before: { Self → Held rules.Value };
+    ghost before: { Self → Option rules.Value };
 
     // the highest operation code that this kind of object knows
-    const HIGHEST: u8;
+    ghost HIGHEST: { ℕ };
 
-    // `HIGHEST`, for code that is generic over the object.
-    fn highest_code() -> u8
-        ensures { result ≡ rules.highest };
+    const HIGHEST: u8;
 
     // Moves to the next value and answers. The value that it leaves is remembered, where the operation is fit.
     fn perform(&mut self, client: u8, operation: &[u8; 16]) -> u64
         ensures answer { result ≡ rules.answer (value self.old) client operation.now }
         ensures after { value self.new ≡ rules.next (value self.old) client operation.now }
-        ensures remembered { before self.new ≡ (if fit rules.highest operation.now then held (value self.old) else before self.old) };
+        ensures remembered { before self.new ≡ (if fit rules.highest operation.now then Some (value self.old) else before self.old) };
 
     // Restores the value before the last write, once; says no, and changes nothing, where there is none.
     fn take_back(&mut self) -> bool
-        ensures said { result ≡ has (before self.old) }
-        ensures after { value self.new ≡ or_else (before self.old) (value self.old) }
-        ensures forgotten { before self.new ≡ nothing };
+        ensures said { result ≡ is_some (before self.old) }
+        ensures after { value self.new ≡ unwrap_or (before self.old) (value self.old) }
+        ensures forgotten { before self.new ≡ None };
 
     // Answers a reading, and changes nothing.
     fn look(&self, operation: &[u8; 16]) -> u64
         ensures { result ≡ rules.look (value self.now) operation.now };
+
+    // The constant is the highest code of the meaning.
+    ghost highest_is: { HIGHEST ≡ rules.highest };
 }

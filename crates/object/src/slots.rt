@@ -3,13 +3,12 @@
 // An operation has its code in byte 0 (1 moves), the account that receives in byte 1 and the amount in
 // bytes 2 to 5, high byte first; no other byte is read. The writer's number is the account that gives.
 ghost use Rattle.object.specs.Accounts.{all_slots, slots_first, total as total_of};
-ghost use Rattle.object.specs.Rules.{nothing};
-ghost use Rattle.object.specs.Slots.{judged, number as number_of, amount as amount_of, balance_at, slots_rules, slots_value, slots_before};
-ghost use Rattle.std.specs.Prelude.{◌≡◌};
+ghost use Rattle.object.specs.Slots.{judged, acted, number as number_of, fault_number, amount as amount_of, balance_at, slots_rules, slots_value, slots_before};
+ghost use Rattle.std.specs.Prelude.{◌≡◌, None, refl};
 
 use crate::Object;
 use crate::accounts::Accounts;
-use crate::answers::{OUT_OF_REACH, UNKNOWN_CODE};
+use crate::answers::{DONE, OUT_OF_REACH, UNKNOWN_CODE};
 use crate::history::History;
 
 // The highest number of an account.
@@ -21,39 +20,47 @@ const MOVE: u8 = 1;
 // The code of a reading of one account.
 const BALANCE: u8 = 1;
 
-// How a write of a known code is answered.
-#[derive(Clone, Copy)]
-enum Answer {
-    Done,
+// Why a move is refused.
+#[derive(Clone, Copy, PartialEq, Eq, Debug)]
+enum Fault {
     // one of the two accounts does not exist
     OutOfRange,
     // the writer's account holds less than the amount
     TooFew,
 }
 
-impl Answer {
-    fn number(self) -> u64
-        ensures { result ≡ number_of self }
-    {
-        match self {
-            Answer::Done => 0,
-            Answer::OutOfRange => 1,
-            Answer::TooFew => 2,
+impl From<Fault> for u64 {
+    ghost from_gives = { λ fault number. number ≡ fault_number fault };
+
+    fn from(fault: Fault) -> u64 {
+        match fault {
+            Fault::OutOfRange => 1,
+            Fault::TooFew => 2,
         }
     }
 }
 
 // Judges a move: the first test that fails decides the answer.
-fn judge(accounts: &Accounts, from: u8, to: u8, amount: u32) -> Answer
+fn judge(accounts: &Accounts, from: u8, to: u8, amount: u32) -> Result<(), Fault>
     ensures { result ≡ judged accounts.now.balances from to amount }
 {
     if from > LAST_ACCOUNT || to > LAST_ACCOUNT {
-        return Answer::OutOfRange;
+        return Err(Fault::OutOfRange);
     }
     if accounts.balances[usize::from(from)] < amount {
-        return Answer::TooFew;
+        return Err(Fault::TooFew);
     }
-    Answer::Done
+    Ok(())
+}
+
+// Moves an amount, if that passes the tests.
+fn transfer(accounts: &mut Accounts, from: u8, to: u8, amount: u32) -> Result<(), Fault>
+    ensures answer { result ≡ judged accounts.old.balances from to amount }
+    ensures after { accounts.new.balances ≡ acted (judged accounts.old.balances from to amount) accounts.old.balances from to amount }
+{
+    judge(accounts, from, to, amount)?;
+    accounts.transfer(usize::from(from), usize::from(to), amount);
+    Ok(())
 }
 
 // The amount that an operation names.
@@ -74,7 +81,7 @@ impl Slots {
     // Account 0 holds all slots, and there is nothing to take back.
     pub fn new() -> Self
         ensures value { slots_value result ≡ slots_first }
-        ensures before { slots_before result ≡ nothing }
+        ensures before { slots_before result ≡ None }
     {
         Slots {
             history: History::new(Accounts::first()),
@@ -85,11 +92,11 @@ impl Slots {
     pub fn balance(&self, account: u8) -> Option<u32>
         ensures { result ≡ balance_at (slots_value self.now) account }
     {
-        if account <= LAST_ACCOUNT {
-            Some(self.history.value.balances[usize::from(account)])
-        } else {
-            None
-        }
+        self.history
+            .value
+            .balances
+            .get(usize::from(account))
+            .copied()
     }
 
     // What all accounts hold together, which is the same at all times.
@@ -108,11 +115,11 @@ impl Object for Slots {
 
     ghost before = { slots_before };
 
+    ghost HIGHEST = { 1 };
+
     const HIGHEST: u8 = 1;
 
-    fn highest_code() -> u8 {
-        Self::HIGHEST
-    }
+    ghost highest_is = { refl };
 
     fn perform(&mut self, client: u8, operation: &[u8; 16]) -> u64 {
         let [code, account, ..] = *operation;
@@ -120,13 +127,9 @@ impl Object for Slots {
             return UNKNOWN_CODE;
         }
         let mut accounts = self.history.value;
-        let amount = amount(operation);
-        let answer = judge(&accounts, client, account, amount);
-        if let Answer::Done = answer {
-            accounts.transfer(usize::from(client), usize::from(account), amount);
-        }
+        let answer = transfer(&mut accounts, client, account, amount(operation));
         self.history.write(accounts);
-        answer.number()
+        answer.map_or_else(u64::from, |()| DONE)
     }
 
     fn take_back(&mut self) -> bool {
@@ -138,9 +141,6 @@ impl Object for Slots {
         if code != BALANCE {
             return UNKNOWN_CODE;
         }
-        match self.balance(account) {
-            Some(balance) => u64::from(balance),
-            None => OUT_OF_REACH,
-        }
+        self.balance(account).map_or(OUT_OF_REACH, u64::from)
     }
 }

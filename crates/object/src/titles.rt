@@ -2,12 +2,12 @@
 //
 // An operation has its code in byte 0 (1 issues, 2 transfers, 3 surrenders), the title in byte 1 and the
 // receiver in byte 2; no other byte is read.
-ghost use Rattle.object.specs.Rules.{nothing};
-ghost use Rattle.object.specs.Titles.{titles_rules, titles_first, act as act_of, number as number_of, judged, outcome as outcome_of, shown as shown_as, title_at, titles_value, titles_before};
-ghost use Rattle.std.specs.Prelude.{◌≡◌};
+ghost use Rattle.object.specs.Titles.{titles_rules, titles_first, act as act_of, fault_number, judged, acted, outcome as outcome_of, shown as shown_as, title_at, titles_value, titles_before};
+ghost use Rattle.object.specs.declared.titles.UnknownCode.{UnknownCode};
+ghost use Rattle.std.specs.Prelude.{◌≡◌, None, ok_or, refl};
 
 use crate::Object;
-use crate::answers::{OUT_OF_REACH, UNKNOWN_CODE};
+use crate::answers::{DONE, OUT_OF_REACH, UNKNOWN_CODE};
 use crate::history::History;
 
 // The number of titles.
@@ -31,17 +31,20 @@ pub enum Title {
 }
 
 // What an operation asks for.
-#[derive(Clone, Copy)]
+#[derive(Clone, Copy, PartialEq, Eq, Debug)]
 enum Act {
     Issue,
     Transfer,
     Surrender,
 }
 
-// How a write of a known code is answered.
-#[derive(Clone, Copy)]
-enum Answer {
-    Done,
+// A code that stands for no act.
+#[derive(Clone, Copy, PartialEq, Eq, Debug)]
+struct UnknownCode(u8);
+
+// Why an act is refused.
+#[derive(Clone, Copy, PartialEq, Eq, Debug)]
+enum Fault {
     // the title or the receiver does not exist
     OutOfRange,
     // the writer may not do this
@@ -63,19 +66,22 @@ impl Title {
     }
 }
 
-impl Act {
-    // What a code asks for.
-    fn of(code: u8) -> Option<Act>
-        ensures { result ≡ act_of code }
-    {
+impl TryFrom<u8> for Act {
+    type Error = UnknownCode;
+
+    ghost try_from_gives = { λ code act. act ≡ ok_or (act_of code) (record { 0 = code }) };
+
+    fn try_from(code: u8) -> Result<Act, UnknownCode> {
         match code {
-            1 => Some(Act::Issue),
-            2 => Some(Act::Transfer),
-            3 => Some(Act::Surrender),
-            _ => None,
+            1 => Ok(Act::Issue),
+            2 => Ok(Act::Transfer),
+            3 => Ok(Act::Surrender),
+            _ => Err(UnknownCode(code)),
         }
     }
+}
 
+impl Act {
     // The state that this gives a title.
     fn outcome(self, receiver: u8) -> Title
         ensures { result ≡ outcome_of self receiver }
@@ -87,21 +93,26 @@ impl Act {
     }
 }
 
-impl Answer {
-    fn number(self) -> u64
-        ensures { result ≡ number_of self }
-    {
-        match self {
-            Answer::Done => 0,
-            Answer::OutOfRange => 1,
-            Answer::NotEntitled => 2,
-            Answer::WrongState => 3,
+impl From<Fault> for u64 {
+    ghost from_gives = { λ fault number. number ≡ fault_number fault };
+
+    fn from(fault: Fault) -> u64 {
+        match fault {
+            Fault::OutOfRange => 1,
+            Fault::NotEntitled => 2,
+            Fault::WrongState => 3,
         }
     }
 }
 
 // Judges an act: the first test that fails decides the answer.
-fn judge(titles: &[Title; TITLES], act: Act, client: u8, title: u8, receiver: u8) -> Answer
+fn judge(
+    titles: &[Title; TITLES],
+    act: Act,
+    client: u8,
+    title: u8,
+    receiver: u8,
+) -> Result<(), Fault>
     ensures { result ≡ judged titles.now act client title receiver }
 {
     let receiver_exists = match act {
@@ -109,18 +120,33 @@ fn judge(titles: &[Title; TITLES], act: Act, client: u8, title: u8, receiver: u8
         Act::Surrender => true,
     };
     if title > LAST_TITLE || !receiver_exists {
-        return Answer::OutOfRange;
+        return Err(Fault::OutOfRange);
     }
     let entitled = match (act, titles[usize::from(title)]) {
         (Act::Issue, Title::Unissued) => client == 0,
         (Act::Transfer | Act::Surrender, Title::HeldBy(holder)) => client == holder,
-        _ => return Answer::WrongState,
+        _ => return Err(Fault::WrongState),
     };
-    if entitled {
-        Answer::Done
-    } else {
-        Answer::NotEntitled
+    if !entitled {
+        return Err(Fault::NotEntitled);
     }
+    Ok(())
+}
+
+// Carries an act out, if it passes the tests.
+fn carry_out(
+    titles: &mut [Title; TITLES],
+    act: Act,
+    client: u8,
+    title: u8,
+    receiver: u8,
+) -> Result<(), Fault>
+    ensures answer { result ≡ judged titles.old act client title receiver }
+    ensures after { titles.new ≡ acted (judged titles.old act client title receiver) titles.old act title receiver }
+{
+    judge(titles, act, client, title, receiver)?;
+    titles[usize::from(title)] = act.outcome(receiver);
+    Ok(())
 }
 
 // The 64 titles, with the titles before the last write until they are taken back.
@@ -133,7 +159,7 @@ impl Titles {
     // All unissued, with nothing to take back.
     pub fn new() -> Self
         ensures value { titles_value result ≡ titles_first }
-        ensures before { titles_before result ≡ nothing }
+        ensures before { titles_before result ≡ None }
     {
         Titles {
             history: History::new([Title::Unissued; TITLES]),
@@ -144,11 +170,7 @@ impl Titles {
     pub fn at(&self, title: u8) -> Option<Title>
         ensures { result ≡ title_at (titles_value self.now) title }
     {
-        if title <= LAST_TITLE {
-            Some(self.history.value[usize::from(title)])
-        } else {
-            None
-        }
+        self.history.value.get(usize::from(title)).copied()
     }
 }
 
@@ -159,24 +181,21 @@ impl Object for Titles {
 
     ghost before = { titles_before };
 
+    ghost HIGHEST = { 3 };
+
     const HIGHEST: u8 = 3;
 
-    fn highest_code() -> u8 {
-        Self::HIGHEST
-    }
+    ghost highest_is = { refl };
 
     fn perform(&mut self, client: u8, operation: &[u8; 16]) -> u64 {
         let [code, title, receiver, ..] = *operation;
-        let Some(act) = Act::of(code) else {
+        let Ok(act) = Act::try_from(code) else {
             return UNKNOWN_CODE;
         };
         let mut titles = self.history.value;
-        let answer = judge(&titles, act, client, title, receiver);
-        if let Answer::Done = answer {
-            titles[usize::from(title)] = act.outcome(receiver);
-        }
+        let answer = carry_out(&mut titles, act, client, title, receiver);
         self.history.write(titles);
-        answer.number()
+        answer.map_or_else(u64::from, |()| DONE)
     }
 
     fn take_back(&mut self) -> bool {
@@ -188,9 +207,6 @@ impl Object for Titles {
         if code != STATE {
             return UNKNOWN_CODE;
         }
-        match self.at(title) {
-            Some(title) => title.shown(),
-            None => OUT_OF_REACH,
-        }
+        self.at(title).map_or(OUT_OF_REACH, Title::shown)
     }
 }

@@ -1,10 +1,10 @@
 -- A pool that begins.
-use Rattle.std.proofs.Common.{◌≡◌, ℕ, zero, suc, ◌+◌, ◌*◌, ◌<◌, ◌≤◌, Bool, true, cond, ◌&&◌, ltb, leb, ◌⊎◌, List, [], ◌∷◌, ◌++◌, map, length, Some, None, filter, sym, refl, ap, ◌∙◌, subst, inl, inr, arith}
+use Rattle.std.proofs.Common.{◌≡◌, ℕ, zero, suc, ◌+◌, ◌*◌, ◌<◌, ◌≤◌, Bool, true, cond, ◌&&◌, ltb, leb, ◌⊎◌, List, [], ◌∷◌, ◌++◌, map, length, Some, None, filter, sym, refl, ap, ◌∙◌, subst, inl, inr, arith, Option}
 use Rattle.std.specs.List.{slice_get}
 use Rattle.std.proofs.lemmas.List.{length_push, length-map, map_push}
 use Rattle.std.proofs.lemmas.Option.{slice_get_past}
 use Rattle.std.proofs.lemmas.Bool.{cond-true, cond-false, lt-ltb, le-ltb, le-leb, and_parts, and_from, cases_order}
-use Rattle.object.specs.Rules.{Rules, Held}
+use Rattle.object.specs.Rules.{Rules}
 use Rattle.site.specs.Fit.{fit_figures, fitted_f, fitted_number}
 use Rattle.site.specs.Call.{fresh}
 use Rattle.site.specs.Ledgers.{Kept, kept_of}
@@ -44,7 +44,7 @@ module _ {R : Rules} (f : ℕ) (accepts : List ℕ → Bool) (kept : Kept R) whe
   fresh_more n all v long below is s = more n all v long below is s (cases_order s n)
 
 -- A pool of fresh sites is that of the empty life.
-pub begins : {R : Rules} (f : ℕ) (accepts : List ℕ → Bool) (first : R.Value) (earlier : Held R.Value) (all : List (View R)) (transcript : List Heard) →
+pub begins : {R : Rules} (f : ℕ) (accepts : List ℕ → Bool) (first : R.Value) (earlier : Option R.Value) (all : List (View R)) (transcript : List Heard) →
     length all ≡ 3 * f + 1 → Fresh f accepts (record { value = first; before = earlier }) all → transcript ≡ [] → BeginsLives R f accepts first earlier all transcript
 begins {R} f accepts first earlier all transcript long new none sound = record {
   many = long;
@@ -68,7 +68,7 @@ is_fresh f m n means kept v fit low is =
     let b = fits.1 in
     cc
 
-module _ (R : Rules) {N O : Type 0} (means : N → List ℕ → Bool) (value : O → R.Value) (before : O → Held R.Value) (notary : N) (object : O) where
+module _ (R : Rules) {N O : Type 0} (means : N → List ℕ → Bool) (value : O → R.Value) (before : O → Option R.Value) (notary : N) (object : O) where
   abbrev StandBelow : ℕ → ℕ → List (Site N O) → Type 0
   StandBelow n f all = FreshBelow n f (means notary) (kept_of R value before object) (views R means value before all)
 

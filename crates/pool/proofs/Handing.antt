@@ -1,10 +1,10 @@
 -- One site's call, as a step of the pool.
-use Rattle.std.proofs.Common.{◌≡◌, ℕ, zero, suc, ◌+◌, ◌-◌, ◌<◌, ◌≤◌, min, Bool, cond, List, [], ◌∷◌, ◌++◌, map, length, get_or, take, set, is_ok, Some, Ok, Err, Result, refl, ap, ◌∙◌, subst, arith, OnErr}
+use Rattle.std.proofs.Common.{◌≡◌, ℕ, zero, suc, ◌+◌, ◌-◌, ◌<◌, ◌≤◌, min, Bool, cond, List, [], ◌∷◌, ◌++◌, map, length, get_or, take, set, is_ok, Some, Ok, Err, Result, refl, ap, ◌∙◌, subst, arith, OnErr, Option}
 use Rattle.std.specs.List.{slice_get}
 use Rattle.std.specs.Option.{option_map}
 use Rattle.std.proofs.lemmas.List.{length-take, map-set, map_push}
 use Rattle.std.proofs.lemmas.Option.{slice_get_read}
-use Rattle.object.specs.Rules.{Rules, Held}
+use Rattle.object.specs.Rules.{Rules}
 use Rattle.message.specs.declared.refusal.Refusal.{Refusal}
 use Rattle.site.specs.Call.{Called, Leaves, call}
 use Rattle.site.specs.Ledgers.{kept_of}
@@ -37,7 +37,7 @@ pub same_heard : (a b : ℕ) (m n v w : List ℕ) (r : Result ℕ Refusal) → a
     ◌≡◌ {A = Heard} (record { site = a; message = m; result = r; written = v }) (record { site = b; message = n; result = r; written = w })
 same_heard a b m n v w r e f g = cc
 
-module _ (R : Rules) {N O : Type 0} (means : N → List ℕ → Bool) (value : O → R.Value) (before : O → Held R.Value) (entered left : Site N O) where
+module _ (R : Rules) {N O : Type 0} (means : N → List ℕ → Bool) (value : O → R.Value) (before : O → Option R.Value) (entered left : Site N O) where
   -- The site after its call.
   is_stepped : (c : Called R) (out cleared : List ℕ) (result : Result ℕ Refusal) → Leaves R c left.state (kept_of R value before left.object) out cleared result →
       left.notary ≡ entered.notary → left.figures ≡ entered.figures → view R means value before left ≡ stepped (view R means value before entered) c

@@ -1,6 +1,6 @@
 -- The sites of a pool, and what was handed to them, as the rules know them.
-use Rattle.std.specs.Prelude.{ℕ, Bool, List, map, vec_items, Result}
-use Rattle.object.specs.Rules.{Rules, Held}
+use Rattle.std.specs.Prelude.{ℕ, Bool, List, map, vec_items, Result, Option}
+use Rattle.object.specs.Rules.{Rules}
 use Rattle.message.specs.declared.refusal.Refusal.{Refusal}
 use Rattle.site.specs.Ledgers.{Kept, kept_of}
 use Rattle.site.specs.declared.site.Site.{Site}
@@ -27,7 +27,7 @@ module _ (R : Rules) where
     pub kept : Kept R
 
   -- A site of the code, by what its notary and its object mean.
-  abbrev pub view : {N O : Type 0} → (N → List ℕ → Bool) → (O → R.Value) → (O → Held R.Value) → Site N O → View
+  abbrev pub view : {N O : Type 0} → (N → List ℕ → Bool) → (O → R.Value) → (O → Option R.Value) → Site N O → View
   view means value before s = record {
     f = s.figures.f;
     number = s.figures.number;
@@ -37,5 +37,5 @@ module _ (R : Rules) where
   }
 
   -- All of them, by their numbers.
-  abbrev pub views : {N O : Type 0} → (N → List ℕ → Bool) → (O → R.Value) → (O → Held R.Value) → List (Site N O) → List View
+  abbrev pub views : {N O : Type 0} → (N → List ℕ → Bool) → (O → R.Value) → (O → Option R.Value) → List (Site N O) → List View
   views means value before = map (view means value before)

@@ -1,7 +1,7 @@
 -- A site's state beside the protocol's: what each part of the one has to do with the other.
 use Rattle.std.proofs.Common.{◌≡◌, ℕ, ◌+◌, ◌*◌, ◌^◌, ◌<◌, ◌≤◌, true, List, [], ◌∷◌, length, take, set, Some, None, Option}
 use mathlib.Core.Option.{Option as Maybe, none, some}
-use Rattle.object.specs.Rules.{Rules, Held, held}
+use Rattle.object.specs.Rules.{Rules}
 use Rattle.record.specs.Limits.{highest_round}
 use Rattle.record.specs.declared.fields.Claim.{Claim as Claimed}
 use Rattle.message.specs.Forms.{quorum}
@@ -111,13 +111,13 @@ module _ (pool : Pool) (R : Rules) (first : R.Value) (s : ℕ) where
     pub sized : SizedClaims cs
 
   -- What the last write replaced.
-  pub record Replaced (T : Transcript) (c : Claimed) (cs : List Claimed) (backup : Option Backup) (before : Held R.Value) : Type 0 where
+  pub record Replaced (T : Transcript) (c : Claimed) (cs : List Claimed) (backup : Option Backup) (before : Option R.Value) : Type 0 where
     pub old : Option Current
     pub kept : backup ≡ Some (record { current = old; entry = entry (done_of R first cs) c.client; called = calls R c })
     pub current : Latest pool s T cs old
-    pub before_it : calls R c ≡ true → before ≡ held (play R first (all_told cs))
+    pub before_it : calls R c ≡ true → before ≡ Some (play R first (all_told cs))
 
-  abbrev pub BackedUp : Transcript → List Claimed → Option Backup → Held R.Value → Type 0
+  abbrev pub BackedUp : Transcript → List Claimed → Option Backup → Option R.Value → Type 0
   BackedUp T [] backup before = Unit {0}
   BackedUp T (c ∷ cs) backup before = Replaced T c cs backup before
 

@@ -1,8 +1,8 @@
 -- The ledger and the object beside a list of writes: what a write adds, and what taking it back leaves.
-use Rattle.std.proofs.Common.{◌≡◌, ℕ, suc, ◌*◌, ◌<◌, ◌≤◌, Bool, true, false, cond, eqb, List, [], ◌∷◌, length, get_or, take, set, Some, None, Option, sym, refl, ap, ◌∙◌, subst, ⊎_elim, arith}
+use Rattle.std.proofs.Common.{◌≡◌, ℕ, suc, ◌*◌, ◌<◌, ◌≤◌, Bool, true, false, cond, eqb, List, [], ◌∷◌, length, get_or, take, set, Some, None, Option, unwrap_or, sym, refl, ap, ◌∙◌, subst, ⊎_elim, arith}
 use Rattle.std.proofs.lemmas.List.{length-set, length-replicate, get_or-set_same, get_or-set_other, get_or-replicate, set-set, set-get_or, get_or_past}
 use Rattle.std.proofs.lemmas.Bool.{cases_eq, cases_lt}
-use Rattle.object.specs.Rules.{Rules, Held, held, fit, or_else}
+use Rattle.object.specs.Rules.{Rules, fit}
 use Rattle.record.specs.Limits.{mark}
 use Rattle.record.specs.declared.fields.Claim.{Claim as Claimed}
 use Rattle.message.specs.Forms.{quorum}
@@ -34,14 +34,14 @@ module _ (R : Rules) (k : Kept R) (c : Claimed) where
   pub same_value : (performed R k c).value ≡ next R k.value (told c)
   same_value = by (eqb c.client mark) (fit R.highest c.operation)
     where
-      by : (m n : Bool) → (cond (cond m false n) (record { value = R.next k.value c.client c.operation; before = held k.value }) k).value ≡ cond m k.value (cond n (R.next k.value c.client c.operation) k.value)
+      by : (m n : Bool) → (cond (cond m false n) (record { value = R.next k.value c.client c.operation; before = Some k.value }) k).value ≡ cond m k.value (cond n (R.next k.value c.client c.operation) k.value)
       by true true = refl
       by true false = refl
       by false true = refl
       by false false = refl
 
-  pub same_before : calls R c ≡ true → (performed R k c).before ≡ held k.value
-  same_before e = ap (λ b. (cond b (record { value = R.next k.value c.client c.operation; before = held k.value }) k).before) e
+  pub same_before : calls R c ≡ true → (performed R k c).before ≡ Some k.value
+  same_before e = ap (λ b. (cond b (record { value = R.next k.value c.client c.operation; before = Some k.value }) k).before) e
 
 -- A write that did not call the object left its value.
 pub value_stays : (R : Rules) (v : R.Value) (c : Claimed) → calls R c ≡ false → next R v (told c) ≡ v
@@ -109,7 +109,7 @@ module _ (pool : Pool) (R : Rules) (first : R.Value) (s x : ℕ) (ds : List Deed
   pub still_ledgered : {cs : List Claimed} {l : Ledger} {k : Kept R} → Ledgered pool R first s T cs l k → Ledgered pool R first s (then_did x ds T) cs l k
   still_ledgered h = record { place = h.place; short = h.short; current = still_latest pool s x ds h.current; done = h.done; value = h.value; sized = h.sized }
 
-  pub still_backed : (cs : List Claimed) (b : Option Backup) (v : Held R.Value) → BackedUp pool R first s T cs b v → BackedUp pool R first s (then_did x ds T) cs b v
+  pub still_backed : (cs : List Claimed) (b : Option Backup) (v : Option R.Value) → BackedUp pool R first s T cs b v → BackedUp pool R first s (then_did x ds T) cs b v
   still_backed [] b v h = h
   still_backed (c ∷ cs) b v h = record { old = h.old; kept = h.kept; current = still_latest pool s x ds h.current; before_it = h.before_it }
 
@@ -137,7 +137,7 @@ module _ (pool : Pool) (R : Rules) (first : R.Value) (s : ℕ) (T : Transcript) 
     old = l.current;
     kept = ap (λ t. Some (record { current = l.current; entry = entry t c.client; called = calls R c })) h.done;
     current = h.current;
-    before_it = λ e. same_before R k c e ∙ ap held h.value;
+    before_it = λ e. same_before R k c e ∙ ap Some h.value;
   }
 
   -- Taking the last write back restores what it replaced.
@@ -160,5 +160,5 @@ module _ (pool : Pool) (R : Rules) (first : R.Value) (s : ℕ) (T : Transcript) 
       whose o (last_write r) = refl
 
       valued : (called : Bool) → calls R c ≡ called → (restored R k called).value ≡ play R first (all_told cs)
-      valued true e = ap (λ x. or_else x k.value) (b.before_it e)
+      valued true e = ap (λ x. unwrap_or x k.value) (b.before_it e)
       valued false e = h.value ∙ value_stays R (play R first (all_told cs)) c e

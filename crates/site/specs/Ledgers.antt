@@ -1,6 +1,6 @@
 -- Doing a write and taking it back.
-use Rattle.std.specs.Prelude.{ℕ, ◌-◌, min, Bool, true, false, cond, List, ◌++◌, length, take, replicate, Some, None, Option, ◌==◌, slice_set}
-use Rattle.object.specs.Rules.{Rules, Held, nothing, held, fit, or_else}
+use Rattle.std.specs.Prelude.{ℕ, ◌-◌, min, Bool, true, false, cond, List, ◌++◌, length, take, replicate, Some, None, Option, ◌==◌, slice_set, unwrap_or}
+use Rattle.object.specs.Rules.{Rules, fit}
 use Rattle.record.specs.Limits.{mark}
 use Rattle.record.specs.declared.fields.Claim.{Claim}
 use Rattle.site.specs.Tables.{entry}
@@ -46,10 +46,10 @@ module _ (R : Rules) where
   -- What an object holds: its value, and the one before the last write.
   pub record Kept : Type 0 where
     pub value : R.Value
-    pub before : Held R.Value
+    pub before : Option R.Value
 
   -- What an object of the code holds.
-  abbrev pub kept_of : {S : Type 0} → (S → R.Value) → (S → Held R.Value) → S → Kept
+  abbrev pub kept_of : {S : Type 0} → (S → R.Value) → (S → Option R.Value) → S → Kept
   kept_of value before object = record { value = value object; before = before object }
 
   -- Whether a write calls the object: not for the mark, nor for an unfit code.
@@ -64,9 +64,9 @@ module _ (R : Rules) where
   -- The object after a write.
   abbrev pub performed : Kept → Claim → Kept
   performed kept claim =
-      cond (calls claim) (record { value = R.next kept.value claim.client claim.operation; before = held kept.value }) kept
+      cond (calls claim) (record { value = R.next kept.value claim.client claim.operation; before = Some kept.value }) kept
 
   -- The object after a take-back.
   abbrev pub restored : Kept → Bool → Kept
-  restored kept true = record { value = or_else kept.before kept.value; before = nothing }
+  restored kept true = record { value = unwrap_or kept.before kept.value; before = None }
   restored kept false = kept

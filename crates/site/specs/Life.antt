@@ -1,8 +1,8 @@
 -- Lives of real calls: any bytes, handed to any sound site of a pool, in any order; and what the sites then wrote and did,
 -- read from the bytes of messages and outputs alone.
-use Rattle.std.specs.Prelude.{◌≡◌, ℕ, zero, suc, ◌+◌, ◌<◌, Bool, cond, ◌⊎◌, List, [], ◌∷◌, length, take, Ok, Err, Result, ◌==◌}
-use Rattle.std.proofs.Math.Option.{Option, none, some}
-use Rattle.object.specs.Rules.{Rules, Held}
+use Rattle.std.specs.Prelude.{◌≡◌, ℕ, zero, suc, ◌+◌, ◌<◌, Bool, cond, ◌⊎◌, List, [], ◌∷◌, length, take, Ok, Err, Result, ◌==◌, Option}
+use Rattle.std.proofs.Math.Option.{Option as Maybe, none, some}
+use Rattle.object.specs.Rules.{Rules}
 use Rattle.record.specs.Kinds.{kind_number}
 use Rattle.record.specs.declared.fields.Statement.{Statement}
 use Rattle.record.specs.declared.kind.Kind.TheVariants.{Grant, Answer, ReadAnswer, Start}
@@ -34,7 +34,7 @@ abbrev pub question_in : Statement → Question
 question_in s = record { client = s.client; operation = s.operation; nonce = s.nonce }
 
 -- The word of a site that a statement is, by its kind: a GRANT, an ANSWER, a READ-ANSWER or a START. Others are no word of a site.
-abbrev pub word_of : Statement → Option Word
+abbrev pub word_of : Statement → Maybe Word
 word_of s =
     cond (s.kind == kind_number Grant) (some (grant (claim_in s)))
     (cond (s.kind == kind_number Answer) (some (answer (claim_in s) s.answer))
@@ -48,7 +48,7 @@ abbrev pub put : Result ℕ Refusal → List ℕ → List ℕ
 put (Ok n) output = take n output
 put (Err refusal) output = []
 
-abbrev pub one_more : (Word → Deed) → Option Word → List Deed → List Deed
+abbrev pub one_more : (Word → Deed) → Maybe Word → List Deed → List Deed
 one_more deed none deeds = deeds
 one_more deed (some word) deeds = deed word ∷ deeds
 
@@ -94,7 +94,7 @@ pub record Setting (R : Rules) : Type 0 where
   pub pool : Pool
   pub accepts : List ℕ → Bool
   pub first : R.Value
-  pub before : ℕ → Held R.Value
+  pub before : ℕ → Option R.Value
 
 module _ {R : Rules} (in_a : Setting R) where
   -- What a site keeps: its state, and what its object holds.

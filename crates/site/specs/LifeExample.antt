@@ -1,8 +1,8 @@
 -- A small life of real bytes that meets the premises, so that what is promised of lives is promised of something. There are four sites, of which site 3 is not sound.
 -- Sites 0, 1 and 2 grant a request, and site 0 does the write. Site 3 grants another claim to the same place, which makes sites 1 and 2 give up the round; the
 -- ROUND that follows has the target 0, so that site 0 takes its write back. The sites show their GRANTs of the new round's mark, do its write, and answer a question; site 0 then shows its certificate.
-use Rattle.std.specs.Prelude.{◌≡◌, ℕ, ◌+◌, true, List, [], ◌∷◌, ◌++◌, replicate, nat_lt}
-use Rattle.object.specs.Rules.{Rules, nothing}
+use Rattle.std.specs.Prelude.{◌≡◌, ℕ, ◌+◌, true, List, [], ◌∷◌, ◌++◌, replicate, nat_lt, None}
+use Rattle.object.specs.Rules.{Rules}
 use Rattle.record.specs.Claims as record_of
 use Rattle.record.specs.Claims.{no_operation}
 use Rattle.record.specs.Layout.{record_bytes}
@@ -90,7 +90,7 @@ the_question = record { client = 1; operation = no_operation; nonce = 7 }
 
 -- Sites 0, 1 and 2 are sound, the notary accepts every record, and the objects first hold 5.
 abbrev pub in_a : Setting counter
-in_a = record { pool = record { f = 1; sound = λ s. nat_lt s 3 }; accepts = λ r. true; first = 5; before = λ s. nothing }
+in_a = record { pool = record { f = 1; sound = λ s. nat_lt s 3 }; accepts = λ r. true; first = 5; before = λ s. None }
 
 abbrev pub told : Transcript
 told =

@@ -1,7 +1,7 @@
 -- The promise: what holds of every life of a pool's real calls, and under which premises.
-use Rattle.std.specs.Prelude.{◌≡◌, ℕ, ◌%◌, ◌^◌, ◌<◌, Bool, true, List, [], ◌∷◌, Ok, Err, Result, ◌≢◌}
+use Rattle.std.specs.Prelude.{◌≡◌, ℕ, ◌%◌, ◌^◌, ◌<◌, Bool, true, List, [], ◌∷◌, Ok, Err, Result, ◌≢◌, Option}
 use Rattle.std.proofs.Math.Option.{some}
-use Rattle.object.specs.Rules.{Rules, Held}
+use Rattle.object.specs.Rules.{Rules}
 use Rattle.record.specs.RoundTrip.{Bytes}
 use Rattle.message.specs.Records.{records, record_at, statement_at}
 use Rattle.message.specs.Said.{round}
@@ -75,7 +75,7 @@ abbrev pub PromiseKept : Rules → Type 0
 PromiseKept R = (in_a : Setting R) (life : List Event) → Premises in_a life → KeptPromise in_a life
 
 -- A pool of 3f + 1 sites, with its sound sites, its notary, and the objects' first values.
-abbrev pub setting : (R : Rules) → ℕ → (ℕ → Bool) → (List ℕ → Bool) → R.Value → (ℕ → Held R.Value) → Setting R
+abbrev pub setting : (R : Rules) → ℕ → (ℕ → Bool) → (List ℕ → Bool) → R.Value → (ℕ → Option R.Value) → Setting R
 setting R f sound accepts first before = record { pool = record { f = f; sound = sound }; accepts = accepts; first = first; before = before }
 
 -- A call that left these is part of lives: take any pool of sites with its notary, whose first value is any, and any life in which the site came to be as
@@ -83,7 +83,7 @@ setting R f sound accepts first before = record { pool = record { f = f; sound =
 -- result are those that the transcript reads, and the promise is kept.
 abbrev pub InEveryLife : (R : Rules) → ℕ → ℕ → (List ℕ → Bool) → State → Kept R → List ℕ → List ℕ → List ℕ → State → Kept R → List ℕ → Result ℕ Refusal → Type 0
 InEveryLife R f number accepts entry object message output board exit after written result =
-    (sound : ℕ → Bool) (first : R.Value) (before : ℕ → Held R.Value) (life : List Event) →
+    (sound : ℕ → Bool) (first : R.Value) (before : ℕ → Option R.Value) (life : List Event) →
     copy_after (setting R f sound accepts first before) life number ≡ record { state = entry; kept = object } →
     Premises (setting R f sound accepts first before) (record { site = number; message = message; output = output; board = board } ∷ life) →
     Went (setting R f sound accepts first before) life (record { site = number; message = message; output = output; board = board }) exit after written result

@@ -1,7 +1,6 @@
 -- Worked examples of one site, together. The site is number 0 of a pool of four, its object the titles, all unissued at first. The notary
 -- is any that accepts the records of the messages below; what they are sealed with is of no account here, so the seals are zero.
 use Rattle.std.specs.Prelude.{◌≡◌, ℕ, Bool, true, List, [], ◌∷◌, ◌++◌, length, drop, replicate, None, Ok, Err}
-use Rattle.object.specs.Rules.{nothing}
 use Rattle.object.specs.Titles.{titles_first, titles_rules, state}
 use Rattle.object.specs.declared.titles.Title.TheVariants.{HeldBy}
 use Rattle.record.specs.Claims.{no_operation, request, grant, answer, start, show_grant}
@@ -107,7 +106,7 @@ hears accepts before message = call titles_rules 1 0 accepts before.state before
 
 -- What the last of these calls leaves, newest first. Before the first the site is fresh.
 abbrev pub heard : (List ℕ → Bool) → List (List ℕ) → Called titles_rules
-heard accepts [] = record { state = fresh; kept = record { value = titles_first; before = nothing }; output = empty_output; board = empty_board; result = Ok 0 }
+heard accepts [] = record { state = fresh; kept = record { value = titles_first; before = None }; output = empty_output; board = empty_board; result = Ok 0 }
 heard accepts (message ∷ past) = hears accepts (heard accepts past) message
 
 -- The call replied with these bytes, and no others.

@@ -8,15 +8,11 @@ use object::Object;
 /// first value of the object. At most f of the 3f + 1 sites are not sound; what sound sites signed was written by
 /// them before; and ROUNDs for one round are equal. Then, at every moment, the sites' outputs tell of one book,
 /// and no call is refused for standing too far past a round's target.
-pub fn promise<O: Object>() -> u8
+pub fn promise<O: Object>()
     ensures { PromiseKept O.Object.rules }
-{
-    0
-}
+{}
 
 /// There is a life of real bytes that meets the premises, with a write that is taken back, a round, and a reading in it.
-pub fn has_a_life() -> u8
+pub fn has_a_life()
     ensures { HasALife }
-{
-    0
-}
+{}

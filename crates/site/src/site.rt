@@ -45,7 +45,7 @@ fn perform<O: Object>(object: &mut O, claim: &Claim) -> Performed
         };
     }
     let code = claim.operation[0];
-    if code == 0 || code > O::highest_code() {
+    if code == 0 || code > O::HIGHEST {
         return Performed {
             answer: 9_999_999,
             called: false,
