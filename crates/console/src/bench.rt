@@ -50,8 +50,8 @@ impl<O: Object> Bench<O> {
 
     // A client writes: the object performs.
     pub fn write(&mut self, client: u8, operation: &Operation) -> Answered
-        ensures answer { result.answer ≡ O.Object.rules.answer (O.Object.value self.old.object) client operation.now }
-        ensures after { O.Object.value self.new.object ≡ O.Object.rules.next (O.Object.value self.old.object) client operation.now }
+        ensures answer { result.answer ≡ O.rules.answer (O.holds self.old.object).value client operation.now }
+        ensures after { (O.holds self.new.object).value ≡ O.rules.next (O.holds self.old.object).value client operation.now }
         ensures asked { result.asked ≡ request client (next_number self.old.numbers.last client) operation.now }
     {
         let number = self.numbers.next(client);
@@ -64,7 +64,7 @@ impl<O: Object> Bench<O> {
 
     // A client reads: the object is looked at.
     pub fn look(&self, client: u8, operation: &Operation, nonce: u64) -> Answered
-        ensures answer { result.answer ≡ O.Object.rules.look (O.Object.value self.now.object) operation.now }
+        ensures answer { result.answer ≡ O.rules.look (O.holds self.now.object).value operation.now }
         ensures asked { result.asked ≡ question client operation.now nonce }
     {
         Answered {
@@ -75,8 +75,8 @@ impl<O: Object> Bench<O> {
 
     // Takes the last write back, if there is one.
     pub fn take_back(&mut self) -> bool
-        ensures said { result ≡ is_some (O.Object.before self.old.object) }
-        ensures after { O.Object.value self.new.object ≡ unwrap_or (O.Object.before self.old.object) (O.Object.value self.old.object) }
+        ensures said { result ≡ is_some (O.holds self.old.object).before }
+        ensures after { (O.holds self.new.object).value ≡ unwrap_or (O.holds self.old.object).before (O.holds self.old.object).value }
     {
         self.object.take_back()
     }

@@ -1,7 +1,7 @@
 -- What writes keep, every list of calls keeps.
 use Rattle.std.proofs.Common.{ℕ, Bool, true, false, cond, List, [], ◌∷◌, Some, None, Option, IfSome, unwrap_or}
-use Rattle.object.specs.Calls.{Moment, called, run, Throughout}
-use Rattle.object.specs.Rules.{Rules, fit}
+use Rattle.object.specs.Calls.{called, run, Throughout}
+use Rattle.object.specs.Rules.{Rules, Moment, fit}
 use Rattle.object.specs.declared.calls.Call.{Call}
 use Rattle.object.specs.declared.calls.Call.TheVariants.{Perform, TakeBack}
 

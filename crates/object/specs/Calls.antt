@@ -1,18 +1,9 @@
 -- Calls of an object, one after another, and what it means after them.
-use Rattle.std.specs.Prelude.{◌≡◌, ℕ, true, false, cond, List, [], ◌∷◌, Some, None, Option, IfSome, unwrap_or, ◌≢◌}
+use Rattle.std.specs.Prelude.{◌≡◌, ℕ, true, false, cond, List, [], ◌∷◌, Some, None, IfSome, unwrap_or, ◌≢◌}
 use Rattle.object.specs.Kept.{unknown_code}
-use Rattle.object.specs.Rules.{Rules, fit}
+use Rattle.object.specs.Rules.{Rules, Moment, fit}
 use Rattle.object.specs.declared.calls.Call.{Call}
 use Rattle.object.specs.declared.calls.Call.TheVariants.{Perform, TakeBack}
-
--- What an object means at one moment: its value, and the value before the last write.
-pub record Moment (V : Type 0) : Type 0 where
-  pub value : V
-  pub before : Option V
-
--- The moment of an object, by its value and what it remembers.
-abbrev pub moment : {S V : Type 0} → (S → V) → (S → Option V) → S → Moment V
-moment value before object = record { value = value object; before = before object }
 
 -- The object after one call.
 abbrev pub called : (r : Rules) → Moment r.Value → Call → Moment r.Value

@@ -1,5 +1,5 @@
 -- What an object means: its values, and what each call does to them.
-use Rattle.std.specs.Prelude.{ℕ, Bool, ◌&&◌, List, nat_le, nat_lt, slice_index}
+use Rattle.std.specs.Prelude.{ℕ, Bool, ◌&&◌, List, Option, nat_le, nat_lt, slice_index}
 
 -- The meaning of one kind of object. A call is described by the value now, the client's number and the
 -- sixteen bytes of the operation, and by nothing else.
@@ -14,6 +14,11 @@ pub record Rules : Type 1 where
   pub look : Value → List ℕ → ℕ
   -- the highest operation code that the object knows
   pub highest : ℕ
+
+-- What an object holds at one moment: its value, and the value before the last write, until it is taken back.
+pub record Moment (V : Type 0) : Type 0 where
+  pub value : V
+  pub before : Option V
 
 -- An operation's code is its first byte.
 abbrev pub code : List ℕ → ℕ

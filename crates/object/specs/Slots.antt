@@ -3,7 +3,7 @@
 -- An operation has its code in byte 0, an account in byte 1 and an amount in bytes 2 to 5, high byte first.
 -- Code 1 moves the amount from the writer's account to that account. A client's number is its account.
 use Rattle.std.specs.Prelude.{ℕ, ◌+◌, ◌*◌, cond, not, ◌&&◌, List, Some, None, Ok, Err, Option, Result, option_map, ◌==◌, nat_le, slice_index}
-use Rattle.object.specs.Rules.{Rules, code}
+use Rattle.object.specs.Rules.{Rules, Moment, code}
 use Rattle.object.specs.Accounts.{holding, moved}
 use Rattle.object.specs.Kept.{unknown_code, out_of_reach}
 use Rattle.object.specs.declared.slots.Slots.{Slots}
@@ -66,9 +66,6 @@ slots_rules = record { Value = List ℕ; next = slots_next; answer = slots_answe
 abbrev pub balance_at : List ℕ → ℕ → Option ℕ
 balance_at accounts k = cond (nat_le k 15) (Some (holding accounts k)) None
 
--- What the program's slots stand for: the value now, and the value before the last write.
-abbrev pub slots_value : Slots → List ℕ
-slots_value s = s.history.value.balances
-
-abbrev pub slots_before : Slots → Option (List ℕ)
-slots_before s = option_map (λ accounts. accounts.balances) s.history.earlier
+-- What the program's slots hold.
+abbrev pub slots_held : Slots → Moment (List ℕ)
+slots_held s = record { value = s.history.value.balances; before = option_map (λ accounts. accounts.balances) s.history.earlier }

@@ -1,7 +1,8 @@
 -- What holds of slots, whatever is done with them.
 use Rattle.std.specs.Prelude.{◌≡◌, ℕ, ◌<◌, List, length}
 use Rattle.object.specs.Accounts.{holding, total}
-use Rattle.object.specs.Calls.{Moment, run, Throughout}
+use Rattle.object.specs.Calls.{run, Throughout}
+use Rattle.object.specs.Rules.{Moment}
 use Rattle.object.specs.Slots.{slots_rules, slots_next, account}
 use Rattle.object.specs.declared.calls.Call.{Call}
 

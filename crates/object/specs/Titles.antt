@@ -3,7 +3,7 @@
 -- An operation has its code in byte 0, the title in byte 1 and the receiver in byte 2. Code 1 issues the
 -- title to the receiver, code 2 transfers it to the receiver, code 3 surrenders it.
 use Rattle.std.specs.Prelude.{ℕ, Bool, true, false, cond, not, ◌&&◌, List, replicate, Some, None, Ok, Err, Option, Result, ◌==◌, nat_le, slice_index, slice_index_or, slice_set}
-use Rattle.object.specs.Rules.{Rules, code}
+use Rattle.object.specs.Rules.{Rules, Moment, code}
 use Rattle.object.specs.Kept.{unknown_code, out_of_reach}
 use Rattle.object.specs.declared.titles.Titles.{Titles}
 use Rattle.object.specs.declared.titles.Title.{Title}
@@ -133,9 +133,6 @@ titles_rules = record { Value = List Title; next = titles_next; answer = titles_
 abbrev pub title_at : List Title → ℕ → Option Title
 title_at titles k = cond (nat_le k 63) (Some (state titles k)) None
 
--- What the program's titles stand for: the value now, and the value before the last write.
-abbrev pub titles_value : Titles → List Title
-titles_value t = t.history.value
-
-abbrev pub titles_before : Titles → Option (List Title)
-titles_before t = t.history.earlier
+-- What the program's titles hold.
+abbrev pub titles_held : Titles → Moment (List Title)
+titles_held t = record { value = t.history.value; before = t.history.earlier }

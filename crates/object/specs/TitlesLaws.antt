@@ -1,7 +1,7 @@
 -- What holds of titles, whatever is done with them.
 use Rattle.std.specs.Prelude.{◌≡◌, ℕ, ◌≤◌, ◌⊎◌, List, None, Ok, ◌≢◌}
-use Rattle.object.specs.Calls.{Moment, run, Performs, Throughout}
-use Rattle.object.specs.Rules.{code}
+use Rattle.object.specs.Calls.{run, Performs, Throughout}
+use Rattle.object.specs.Rules.{Moment, code}
 use Rattle.object.specs.Titles.{titles_first, titles_rules, titles_next, titles_answer, number, state, title, receiver}
 use Rattle.object.specs.declared.calls.Call.{Call}
 use Rattle.object.specs.declared.titles.Title.{Title}

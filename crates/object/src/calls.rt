@@ -1,5 +1,5 @@
 // Calls that may change an object, as values: a host that keeps a journal of them can make them again.
-ghost use Rattle.object.specs.Calls.{moment, called, run};
+ghost use Rattle.object.specs.Calls.{called, run};
 ghost use Rattle.std.specs.Prelude.{◌≡◌};
 
 use crate::Object;
@@ -13,7 +13,7 @@ pub enum Call {
 
 // Makes one call.
 pub fn apply<O: Object>(object: &mut O, call: &Call)
-    ensures { moment O.Object.value O.Object.before object.new ≡ called O.Object.rules (moment O.Object.value O.Object.before object.old) call.now }
+    ensures { O.holds object.new ≡ called O.rules (O.holds object.old) call.now }
 {
     match call {
         Call::Perform { client, operation } => {
@@ -27,7 +27,7 @@ pub fn apply<O: Object>(object: &mut O, call: &Call)
 
 // Makes each call of a list, one after another.
 pub fn replay<O: Object>(object: &mut O, calls: &[Call])
-    ensures { moment O.Object.value O.Object.before object.new ≡ run O.Object.rules (moment O.Object.value O.Object.before object.old) calls.now }
+    ensures { O.holds object.new ≡ run O.rules (O.holds object.old) calls.now }
 {
     for call in calls {
         apply(object, call);

@@ -50,5 +50,5 @@ pub fn refused_moves_nothing()
 
 // A take-back undoes the last write, once; this holds of every kind of object.
 pub fn take_back_undoes<O: Object>()
-    ensures { TakeBackUndoes O.Object.rules }
+    ensures { TakeBackUndoes O.rules }
 {}

@@ -9,8 +9,8 @@
 // that client is left to the caller.
 #![tactic(auto)]
 
-ghost use Rattle.object.specs.Rules.{Rules, fit};
-ghost use Rattle.std.specs.Prelude.{◌≡◌, ℕ, if◌then◌else◌, Some, None, Option, is_some, unwrap_or};
+ghost use Rattle.object.specs.Rules.{Rules, Moment, fit};
+ghost use Rattle.std.specs.Prelude.{◌≡◌, ℕ, if◌then◌else◌, Some, None, is_some, unwrap_or};
 
 mod accounts;
 pub mod answers;
@@ -24,11 +24,8 @@ pub trait Object {
     // what the values are, and what each call answers and does
     ghost rules: { Rules };
 
-    // the value now
-    ghost value: { Self → rules.Value };
-
-    // the value before the last write, until it is taken back
-    ghost before: { Self → Option rules.Value };
+    // the value now, and the value before the last write, until it is taken back
+    ghost holds: { Self → Moment rules.Value };
 
     // the highest operation code that this kind of object knows
     ghost HIGHEST: { ℕ };
@@ -37,19 +34,19 @@ pub trait Object {
 
     // Moves to the next value and answers. The value that it leaves is remembered, where the operation is fit.
     fn perform(&mut self, client: u8, operation: &[u8; 16]) -> u64
-        ensures answer { result ≡ rules.answer (value self.old) client operation.now }
-        ensures after { value self.new ≡ rules.next (value self.old) client operation.now }
-        ensures remembered { before self.new ≡ (if fit rules.highest operation.now then Some (value self.old) else before self.old) };
+        ensures answer { result ≡ rules.answer (holds self.old).value client operation.now }
+        ensures after { (holds self.new).value ≡ rules.next (holds self.old).value client operation.now }
+        ensures remembered { (holds self.new).before ≡ (if fit rules.highest operation.now then Some (holds self.old).value else (holds self.old).before) };
 
     // Restores the value before the last write, once; says no, and changes nothing, where there is none.
     fn take_back(&mut self) -> bool
-        ensures said { result ≡ is_some (before self.old) }
-        ensures after { value self.new ≡ unwrap_or (before self.old) (value self.old) }
-        ensures forgotten { before self.new ≡ None };
+        ensures said { result ≡ is_some (holds self.old).before }
+        ensures after { (holds self.new).value ≡ unwrap_or (holds self.old).before (holds self.old).value }
+        ensures forgotten { (holds self.new).before ≡ None };
 
     // Answers a reading, and changes nothing.
     fn look(&self, operation: &[u8; 16]) -> u64
-        ensures { result ≡ rules.look (value self.now) operation.now };
+        ensures { result ≡ rules.look (holds self.now).value operation.now };
 
     // The constant is the highest code of the meaning.
     ghost highest_is: { HIGHEST ≡ rules.highest };

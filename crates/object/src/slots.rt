@@ -3,7 +3,7 @@
 // An operation has its code in byte 0 (1 moves), the account that receives in byte 1 and the amount in
 // bytes 2 to 5, high byte first; no other byte is read. The writer's number is the account that gives.
 ghost use Rattle.object.specs.Accounts.{all_slots, slots_first, total as total_of};
-ghost use Rattle.object.specs.Slots.{judged, acted, number as number_of, fault_number, amount as amount_of, balance_at, slots_rules, slots_value, slots_before};
+ghost use Rattle.object.specs.Slots.{judged, acted, number as number_of, fault_number, amount as amount_of, balance_at, slots_rules, slots_held};
 ghost use Rattle.std.specs.Prelude.{◌≡◌, None, refl};
 
 use crate::Object;
@@ -80,8 +80,7 @@ pub struct Slots {
 impl Slots {
     // Account 0 holds all slots, and there is nothing to take back.
     pub fn new() -> Self
-        ensures value { slots_value result ≡ slots_first }
-        ensures before { slots_before result ≡ None }
+        ensures { slots_held result ≡ record { value = slots_first; before = None } }
     {
         Slots {
             history: History::new(Accounts::first()),
@@ -90,7 +89,7 @@ impl Slots {
 
     // What an account holds, where there is such an account.
     pub fn balance(&self, account: u8) -> Option<u32>
-        ensures { result ≡ balance_at (slots_value self.now) account }
+        ensures { result ≡ balance_at (slots_held self.now).value account }
     {
         self.history
             .value
@@ -101,7 +100,7 @@ impl Slots {
 
     // What all accounts hold together, which is the same at all times.
     pub fn total(&self) -> u32
-        ensures sum { result ≡ total_of (slots_value self.now) }
+        ensures sum { result ≡ total_of (slots_held self.now).value }
         ensures constant { result ≡ all_slots }
     {
         self.history.value.balances.iter().sum()
@@ -111,9 +110,7 @@ impl Slots {
 impl Object for Slots {
     ghost rules = { slots_rules };
 
-    ghost value = { slots_value };
-
-    ghost before = { slots_before };
+    ghost holds = { slots_held };
 
     ghost HIGHEST = { 1 };
 

@@ -2,7 +2,7 @@
 //
 // An operation has its code in byte 0 (1 issues, 2 transfers, 3 surrenders), the title in byte 1 and the
 // receiver in byte 2; no other byte is read.
-ghost use Rattle.object.specs.Titles.{titles_rules, titles_first, act as act_of, fault_number, judged, acted, outcome as outcome_of, shown as shown_as, title_at, titles_value, titles_before};
+ghost use Rattle.object.specs.Titles.{titles_rules, titles_first, act as act_of, fault_number, judged, acted, outcome as outcome_of, shown as shown_as, title_at, titles_held};
 ghost use Rattle.object.specs.declared.titles.UnknownCode.{UnknownCode};
 ghost use Rattle.std.specs.Prelude.{◌≡◌, None, ok_or, refl};
 
@@ -158,8 +158,7 @@ pub struct Titles {
 impl Titles {
     // All unissued, with nothing to take back.
     pub fn new() -> Self
-        ensures value { titles_value result ≡ titles_first }
-        ensures before { titles_before result ≡ None }
+        ensures { titles_held result ≡ record { value = titles_first; before = None } }
     {
         Titles {
             history: History::new([Title::Unissued; TITLES]),
@@ -168,7 +167,7 @@ impl Titles {
 
     // The state of a title, where there is such a title.
     pub fn at(&self, title: u8) -> Option<Title>
-        ensures { result ≡ title_at (titles_value self.now) title }
+        ensures { result ≡ title_at (titles_held self.now).value title }
     {
         self.history.value.get(usize::from(title)).copied()
     }
@@ -177,9 +176,7 @@ impl Titles {
 impl Object for Titles {
     ghost rules = { titles_rules };
 
-    ghost value = { titles_value };
-
-    ghost before = { titles_before };
+    ghost holds = { titles_held };
 
     ghost HIGHEST = { 3 };
 

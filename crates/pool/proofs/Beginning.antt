@@ -1,5 +1,5 @@
 -- A pool that begins.
-use Rattle.std.proofs.Common.{◌≡◌, ℕ, zero, suc, ◌+◌, ◌*◌, ◌<◌, ◌≤◌, Bool, true, cond, ◌&&◌, ltb, leb, ◌⊎◌, List, [], ◌∷◌, ◌++◌, map, length, Some, None, filter, sym, refl, ap, ◌∙◌, subst, inl, inr, arith, Option}
+use Rattle.std.proofs.Common.{◌≡◌, ℕ, zero, suc, ◌+◌, ◌*◌, ◌<◌, ◌≤◌, Bool, true, cond, ◌&&◌, ltb, leb, ◌⊎◌, List, [], ◌∷◌, ◌++◌, map, length, Some, None, filter, sym, refl, ap, ◌∙◌, subst, inl, inr, arith}
 use Rattle.std.specs.List.{slice_get}
 use Rattle.std.proofs.lemmas.List.{length_push, length-map, map_push}
 use Rattle.std.proofs.lemmas.Option.{slice_get_past}
@@ -7,7 +7,7 @@ use Rattle.std.proofs.lemmas.Bool.{cond-true, cond-false, lt-ltb, le-ltb, le-leb
 use Rattle.object.specs.Rules.{Rules}
 use Rattle.site.specs.Fit.{fit_figures, fitted_f, fitted_number}
 use Rattle.site.specs.Call.{fresh}
-use Rattle.site.specs.Ledgers.{Kept, kept_of}
+use Rattle.site.specs.Ledgers.{Kept}
 use Rattle.pool.specs.Delivering.{fresh_view, FreshBelow, Fresh}
 use Rattle.pool.specs.Lives.{BeginsLives}
 use Rattle.site.specs.declared.site.Site.{Site}
@@ -26,7 +26,7 @@ nth-push (y ∷ ys) x zero e = absurd (omega arith)
 nth-push (y ∷ ys) x (suc s) e = nth-push ys x s (omega arith)
 
 module _ {R : Rules} (f : ℕ) (accepts : List ℕ → Bool) (kept : Kept R) where
-  pub fresh_none : FreshBelow 0 f accepts kept []
+  pub fresh_none : FreshBelow {R = R} 0 f accepts kept []
   fresh_none s = sym (cond-false (ltb s 0) (Some (fresh_view f accepts kept s)) None (le-ltb s 0 (omega arith)))
 
   more : (n : ℕ) (all : List (View R)) (v : View R) → length all ≡ n → FreshBelow n f accepts kept all → v ≡ fresh_view f accepts kept n →
@@ -44,11 +44,11 @@ module _ {R : Rules} (f : ℕ) (accepts : List ℕ → Bool) (kept : Kept R) whe
   fresh_more n all v long below is s = more n all v long below is s (cases_order s n)
 
 -- A pool of fresh sites is that of the empty life.
-pub begins : {R : Rules} (f : ℕ) (accepts : List ℕ → Bool) (first : R.Value) (earlier : Option R.Value) (all : List (View R)) (transcript : List Heard) →
-    length all ≡ 3 * f + 1 → Fresh f accepts (record { value = first; before = earlier }) all → transcript ≡ [] → BeginsLives R f accepts first earlier all transcript
-begins {R} f accepts first earlier all transcript long new none sound = record {
+pub begins : {R : Rules} (f : ℕ) (accepts : List ℕ → Bool) (kept : Kept R) (all : List (View R)) (transcript : List Heard) →
+    length all ≡ 3 * f + 1 → Fresh f accepts kept all → transcript ≡ [] → BeginsLives R f accepts kept all transcript
+begins {R} f accepts kept all transcript long new none sound = record {
   many = long;
-  each = λ s ok. new s ∙ cond-true (ltb s (3 * f + 1)) (Some (fresh_view f accepts (record { value = first; before = earlier }) s)) None (lt-ltb s (3 * f + 1) ok.below);
+  each = λ s ok. new s ∙ cond-true (ltb s (3 * f + 1)) (Some (fresh_view f accepts kept s)) None (lt-ltb s (3 * f + 1) ok.below);
   told = ap (λ (l : List Heard). filter (λ (h : Heard). sound h.site) l) none;
 }
 
@@ -68,26 +68,26 @@ is_fresh f m n means kept v fit low is =
     let b = fits.1 in
     cc
 
-module _ (R : Rules) {N O : Type 0} (means : N → List ℕ → Bool) (value : O → R.Value) (before : O → Option R.Value) (notary : N) (object : O) where
+module _ (R : Rules) {N O : Type 0} (means : N → List ℕ → Bool) (holds : O → Kept R) (notary : N) (object : O) where
   abbrev StandBelow : ℕ → ℕ → List (Site N O) → Type 0
-  StandBelow n f all = FreshBelow n f (means notary) (kept_of R value before object) (views R means value before all)
+  StandBelow n f all = FreshBelow n f (means notary) (holds object) (views R means holds all)
 
   pub site_more : (f m n : ℕ) (all after : List (Site N O)) (s : Site N O) → fit_figures f m ≡ true → n < 3 * f + 1 → length all ≡ n → StandBelow n f all →
-      s.figures.f ≡ fitted_f f n → s.figures.number ≡ fitted_number f n → s.state ≡ fresh → s.notary ≡ notary → s.object ≡ object →
+      s.figures.f ≡ fitted_f f n → s.figures.number ≡ fitted_number f n → s.replica.state ≡ fresh → s.notary ≡ notary → s.replica.object ≡ object →
       after ≡ all ++ s ∷ [] → StandBelow (n + 1) f after
   site_more f m n all after s fit low long below a b c d e more =
-      let v = view R means value before in
-      let made : v s ≡ fresh_view (fitted_f f n) (means notary) (kept_of R value before object) (fitted_number f n) = cc in
-      let one : v s ≡ fresh_view f (means notary) (kept_of R value before object) n = is_fresh f m n (means notary) (kept_of R value before object) (v s) fit low made in
+      let v = view R means holds in
+      let made : v s ≡ fresh_view (fitted_f f n) (means notary) (holds object) (fitted_number f n) = cc in
+      let one : v s ≡ fresh_view f (means notary) (holds object) n = is_fresh f m n (means notary) (holds object) (v s) fit low made in
       let many : length (map v all) ≡ n = length-map all v ∙ long in
       let split : map v after ≡ map v all ++ v s ∷ [] = ap (map v) more ∙ map_push v all s in
-      subst (FreshBelow (n + 1) f (means notary) (kept_of R value before object)) (sym split) (fresh_more f (means notary) (kept_of R value before object) n (map v all) (v s) many below one)
+      subst (FreshBelow (n + 1) f (means notary) (holds object)) (sym split) (fresh_more f (means notary) (holds object) n (map v all) (v s) many below one)
 
   pub pool_begins : (f g n : ℕ) (all : List (Site N O)) (entries : List Entry) → f ≡ g → n ≡ 3 * f + 1 → length all ≡ n → StandBelow n f all → entries ≡ [] →
-      (Fresh g (means notary) (kept_of R value before object) (views R means value before all) × (map heard entries ≡ []))
-      × BeginsLives R g (means notary) (value object) (before object) (views R means value before all) (map heard entries)
+      (Fresh g (means notary) (holds object) (views R means holds all) × (map heard entries ≡ []))
+      × BeginsLives R g (means notary) (holds object) (views R means holds all) (map heard entries)
   pool_begins f g n all entries same whole long below none =
       let all_of : StandBelow (3 * g + 1) g all = subst (λ k. StandBelow (3 * k + 1) k all) same (subst (λ k. StandBelow k f all) whole below) in
       let told : map heard entries ≡ [] = ap (map heard) none in
-      let many : length (views R means value before all) ≡ 3 * g + 1 = length-map all (view R means value before) ∙ long ∙ whole ∙ ap (λ k. 3 * k + 1) same in
-      ((all_of, told), begins g (means notary) (value object) (before object) (views R means value before all) (map heard entries) many all_of told)
+      let many : length (views R means holds all) ≡ 3 * g + 1 = length-map all (view R means holds) ∙ long ∙ whole ∙ ap (λ k. 3 * k + 1) same in
+      ((all_of, told), begins g (means notary) (holds object) (views R means holds all) (map heard entries) many all_of told)

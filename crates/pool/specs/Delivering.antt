@@ -1,12 +1,13 @@
 -- What becomes of a pool when a message is handed to one of its sites.
-use Rattle.std.specs.Prelude.{◌≡◌, ℕ, ◌+◌, ◌*◌, Bool, cond, List, [], ◌∷◌, ◌++◌, Some, None, Ok, Err, Result, nat_lt, slice_set}
+use Rattle.std.specs.Prelude.{◌≡◌, ℕ, ◌+◌, ◌*◌, Bool, cond, List, [], ◌∷◌, ◌++◌, map, vec_items, Some, None, Ok, Err, Result, nat_lt, slice_set}
 use Rattle.std.specs.List.{slice_get}
 use Rattle.object.specs.Rules.{Rules}
 use Rattle.message.specs.declared.refusal.Refusal.{Refusal}
 use Rattle.site.specs.Call.{fresh, Called, call}
 use Rattle.site.specs.Ledgers.{Kept}
 use Rattle.site.specs.Life.{put}
-use Rattle.pool.specs.Views.{Heard, View}
+use Rattle.pool.specs.Views.{Heard, heard, View, views}
+use Rattle.pool.specs.declared.pool.Pool.{Pool}
 use Rattle.pool.specs.declared.entry.Undelivered.{Undelivered}
 use Rattle.pool.specs.declared.entry.Undelivered.TheVariants.{NoSite, NoMemory}
 
@@ -17,6 +18,15 @@ module _ (R : Rules) where
     pub transcript : List Heard
     pub output : List ℕ
     pub board : List ℕ
+
+-- The moment of a pool of the code, by what its notary and its objects mean.
+abbrev pub moment : (R : Rules) {N O : Type 0} → (N → List ℕ → Bool) → (O → Kept R) → Pool N O → List ℕ → List ℕ → Moment R
+moment R means holds pool output board = record {
+  sites = views R means holds (vec_items pool.sites);
+  transcript = map heard (vec_items pool.transcript);
+  output = output;
+  board = board;
+}
 
 module _ {R : Rules} where
   -- A call at a site.

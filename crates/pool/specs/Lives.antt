@@ -1,8 +1,9 @@
 -- When a pool in one process is a pool of a life, and what is promised of it then.
-use Rattle.std.specs.Prelude.{◌≡◌, ℕ, Bool, cond, List, [], ◌∷◌, ◌++◌, length, Some, filter, Option}
+use Rattle.std.specs.Prelude.{◌≡◌, ℕ, Bool, cond, List, [], ◌∷◌, ◌++◌, length, Some, filter}
 use Rattle.std.specs.List.{slice_get}
 use Rattle.object.specs.Rules.{Rules}
 use Rattle.protocol.specs.Quorum.{Sound, sites}
+use Rattle.site.specs.Ledgers.{Kept}
 use Rattle.site.specs.Life.{Event, Setting, Copy, copy_after, called}
 use Rattle.site.specs.OneBook.{Premises, KeptPromise, setting}
 use Rattle.pool.specs.Delivering.{noted}
@@ -42,5 +43,5 @@ abbrev pub InLives : (R : Rules) → List (View R) → List Heard → Event → 
 InLives R before told e after telling = (in_a : Setting R) (life : List Event) → Stands in_a life before told → Goes_on in_a life e after telling
 
 -- A pool that begins: whichever of its sites are sound, it is that of a life in which nothing has happened.
-abbrev pub BeginsLives : (R : Rules) → ℕ → (List ℕ → Bool) → R.Value → Option R.Value → List (View R) → List Heard → Type 0
-BeginsLives R f accepts first earlier all transcript = (sound : ℕ → Bool) → Stands (setting R f sound accepts first (λ s. earlier)) [] all transcript
+abbrev pub BeginsLives : (R : Rules) → ℕ → (List ℕ → Bool) → Kept R → List (View R) → List Heard → Type 0
+BeginsLives R f accepts kept all transcript = (sound : ℕ → Bool) → Stands (setting R f sound accepts kept.value (λ s. kept.before)) [] all transcript

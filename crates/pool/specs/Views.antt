@@ -1,8 +1,8 @@
 -- The sites of a pool, and what was handed to them, as the rules know them.
-use Rattle.std.specs.Prelude.{ℕ, Bool, List, map, vec_items, Result, Option}
+use Rattle.std.specs.Prelude.{ℕ, Bool, List, map, vec_items, Result}
 use Rattle.object.specs.Rules.{Rules}
 use Rattle.message.specs.declared.refusal.Refusal.{Refusal}
-use Rattle.site.specs.Ledgers.{Kept, kept_of}
+use Rattle.site.specs.Ledgers.{Kept}
 use Rattle.site.specs.declared.site.Site.{Site}
 use Rattle.site.specs.declared.state.State.{State}
 use Rattle.pool.specs.declared.entry.Entry.{Entry}
@@ -27,15 +27,15 @@ module _ (R : Rules) where
     pub kept : Kept R
 
   -- A site of the code, by what its notary and its object mean.
-  abbrev pub view : {N O : Type 0} → (N → List ℕ → Bool) → (O → R.Value) → (O → Option R.Value) → Site N O → View
-  view means value before s = record {
+  abbrev pub view : {N O : Type 0} → (N → List ℕ → Bool) → (O → Kept R) → Site N O → View
+  view means holds s = record {
     f = s.figures.f;
     number = s.figures.number;
     accepts = means s.notary;
-    state = s.state;
-    kept = kept_of R value before s.object;
+    state = s.replica.state;
+    kept = holds s.replica.object;
   }
 
   -- All of them, by their numbers.
-  abbrev pub views : {N O : Type 0} → (N → List ℕ → Bool) → (O → R.Value) → (O → Option R.Value) → List (Site N O) → List View
-  views means value before = map (view means value before)
+  abbrev pub views : {N O : Type 0} → (N → List ℕ → Bool) → (O → Kept R) → List (Site N O) → List View
+  views means holds = map (view means holds)

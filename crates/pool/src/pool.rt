@@ -1,8 +1,8 @@
 //! The sites of a pool, and handing a message to one of them.
 ghost use Rattle.std.specs.Prelude.{◌≡◌, ◌≤◌, [], map, length, vec_len, vec_capacity, OnOk};
-ghost use Rattle.pool.specs.Delivering.{Delivers};
+ghost use Rattle.pool.specs.Delivering.{Delivers, moment};
 ghost use Rattle.pool.specs.Lives.{InLives};
-ghost use Rattle.pool.specs.Views.{heard, views, view};
+ghost use Rattle.pool.specs.Views.{heard, views};
 ghost use Rattle.site.specs.Life.{put};
 
 use crate::entry::{Entry, Undelivered};
@@ -57,8 +57,8 @@ impl<N: Notary, O: Object> Pool<N, O> {
         output: &mut [u8],
         board: &mut [u8],
     ) -> Result<Result<usize, Refusal>, Undelivered>
-        ensures delivers { Delivers record { sites = views O.Object.rules N.Notary.means O.Object.value O.Object.before self.old.sites.items; transcript = map heard self.old.transcript.items; output = output.old; board = board.old } site message.now record { sites = views O.Object.rules N.Notary.means O.Object.value O.Object.before self.new.sites.items; transcript = map heard self.new.transcript.items; output = output.new; board = board.new } result }
-        ensures lives { OnOk result (InLives O.Object.rules (views O.Object.rules N.Notary.means O.Object.value O.Object.before self.old.sites.items) (map heard self.old.transcript.items) record { site = site; message = message.now; output = output.old; board = board.old } (views O.Object.rules N.Notary.means O.Object.value O.Object.before self.new.sites.items) (map heard self.new.transcript.items)) }
+        ensures delivers { Delivers (moment O.rules N.means O.holds self.old output.old board.old) site message.now (moment O.rules N.means O.holds self.new output.new board.new) result }
+        ensures lives { OnOk result (InLives O.rules (views O.rules N.means O.holds self.old.sites.items) (map heard self.old.transcript.items) record { site = site; message = message.now; output = output.old; board = board.old } (views O.rules N.means O.holds self.new.sites.items) (map heard self.new.transcript.items)) }
     {
         let at = usize::from(site);
         if at >= self.sites.len() {

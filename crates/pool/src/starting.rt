@@ -4,7 +4,6 @@ ghost use Rattle.pool.specs.Delivering.{Fresh};
 ghost use Rattle.pool.specs.Lives.{BeginsLives};
 ghost use Rattle.pool.specs.Views.{heard, views};
 ghost use Rattle.site.specs.Fit.{fitted_f};
-ghost use Rattle.site.specs.Ledgers.{kept_of};
 
 use crate::pool::Pool;
 use notary::Notary;
@@ -16,8 +15,8 @@ use std::alloc::{AllocError, Global};
 impl<N: Notary + Copy, O: Object + Copy> Pool<N, O> {
     /// A pool of 3f + 1 fresh sites that all have this notary, and this object at its value now. An unfit f makes a pool of four.
     pub fn new(heap: Global, f: u8, notary: N, object: O) -> Result<Pool<N, O>, AllocError>
-        ensures fresh { IfOk result (λ p. Fresh (fitted_f f 0) (N.Notary.means notary) (kept_of O.Object.rules O.Object.value O.Object.before object) (views O.Object.rules N.Notary.means O.Object.value O.Object.before p.sites.items) × (map heard p.transcript.items ≡ [])) }
-        ensures lives { IfOk result (λ p. BeginsLives O.Object.rules (fitted_f f 0) (N.Notary.means notary) (O.Object.value object) (O.Object.before object) (views O.Object.rules N.Notary.means O.Object.value O.Object.before p.sites.items) (map heard p.transcript.items)) }
+        ensures fresh { IfOk result (λ p. Fresh (fitted_f f 0) (N.means notary) (O.holds object) (views O.rules N.means O.holds p.sites.items) × (map heard p.transcript.items ≡ [])) }
+        ensures lives { IfOk result (λ p. BeginsLives O.rules (fitted_f f 0) (N.means notary) (O.holds object) (views O.rules N.means O.holds p.sites.items) (map heard p.transcript.items)) }
     {
         let fit = fitted(f, 0).f;
         let mut sites = Vec::new(heap);

@@ -1,6 +1,6 @@
 -- Doing a write and taking it back.
 use Rattle.std.specs.Prelude.{ℕ, ◌-◌, min, Bool, true, false, cond, List, ◌++◌, length, take, replicate, Some, None, Option, ◌==◌, slice_set, unwrap_or}
-use Rattle.object.specs.Rules.{Rules, fit}
+use Rattle.object.specs.Rules.{Rules, Moment, fit}
 use Rattle.record.specs.Limits.{mark}
 use Rattle.record.specs.declared.fields.Claim.{Claim}
 use Rattle.site.specs.Tables.{entry}
@@ -43,14 +43,9 @@ calls_back None = false
 calls_back (Some backup) = backup.called
 
 module _ (R : Rules) where
-  -- What an object holds: its value, and the one before the last write.
-  pub record Kept : Type 0 where
-    pub value : R.Value
-    pub before : Option R.Value
-
-  -- What an object of the code holds.
-  abbrev pub kept_of : {S : Type 0} → (S → R.Value) → (S → Option R.Value) → S → Kept
-  kept_of value before object = record { value = value object; before = before object }
+  -- What an object of these rules holds.
+  abbrev pub Kept : Type 0
+  Kept = Moment R.Value
 
   -- Whether a write calls the object: not for the mark, nor for an unfit code.
   abbrev pub calls : Claim → Bool

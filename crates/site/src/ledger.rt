@@ -1,11 +1,30 @@
 //! Doing a write and taking it back.
 ghost use Rattle.site.specs.Ledgers.{kept_bytes, noted, taken_back, calls_back, current_client};
-ghost use Rattle.std.specs.Prelude.{◌≡◌};
+ghost use Rattle.std.specs.Prelude.{◌≡◌, false};
 
 use crate::entries::{get, put};
 use crate::state::{Backup, CERTIFICATE, Current, Done, Ledger};
 use record::Claim;
 use record::limits::MARK;
+
+/// What a write was answered, and whether it called the object.
+#[derive(Clone, Copy)]
+pub(crate) struct Performed {
+    pub(crate) answer: u64,
+    pub(crate) called: bool,
+}
+
+impl Performed {
+    /// A write that is answered without the object.
+    pub(crate) fn without_call(answer: u64) -> Performed
+        ensures { result ≡ record { answer = answer; called = false } }
+    {
+        Performed {
+            answer,
+            called: false,
+        }
+    }
+}
 
 /// A certificate as it is kept: its bytes, then zeros.
 fn kept(certificate: &[u8]) -> [u8; CERTIFICATE]
@@ -19,13 +38,13 @@ fn kept(certificate: &[u8]) -> [u8; CERTIFICATE]
 
 impl Ledger {
     /// Notes a write as done.
-    pub(crate) fn note(&mut self, claim: &Claim, certificate: &[u8], answer: u64, called: bool)
-        ensures { self.new ≡ noted self.old claim.now certificate.now answer called }
+    pub(crate) fn note(&mut self, claim: &Claim, certificate: &[u8], write: Performed)
+        ensures { self.new ≡ noted self.old claim.now certificate.now write.answer write.called }
     {
         let backup = Backup {
             current: self.current,
             entry: get(&self.done, claim.client),
-            called,
+            called: write.called,
         };
         self.place = claim.place;
         self.current = Some(Current {
@@ -37,7 +56,7 @@ impl Ledger {
             claim.client,
             Some(Done {
                 claim: *claim,
-                answer,
+                answer: write.answer,
             }),
         );
         self.backup = Some(backup);

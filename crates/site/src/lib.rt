@@ -12,6 +12,7 @@ pub mod fitting;
 mod ledger;
 mod moving;
 pub mod promise;
+mod replica;
 pub mod reply;
 mod replying;
 pub mod rows;

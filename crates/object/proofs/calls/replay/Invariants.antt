@@ -1,9 +1,9 @@
 -- The calls that are left, made on the object as it is, lead where all calls lead from the start.
 use Rattle.std.proofs.Common.{◌≡◌, drop}
-use Rattle.object.specs.Calls.{moment, run}
+use Rattle.object.specs.Calls.{run}
 use Rattle.object.proofs.calls.replay.Given as goal
 
 abbrev pub invariant-loop-call : goal.invariant-loop-call
 invariant-loop-call g l =
-    run g.O.Object.rules (moment g.O.Object.value g.O.Object.before l.object) (drop l.call-index l.calls)
-    ≡ run g.O.Object.rules (moment g.O.Object.value g.O.Object.before l.initial.object) l.calls
+    run g.O.Object.rules (g.O.Object.holds l.object) (drop l.call-index l.calls)
+    ≡ run g.O.Object.rules (g.O.Object.holds l.initial.object) l.calls

@@ -11,7 +11,7 @@ use Rattle.pool.proofs.pool.Pool.deliver.Goals as goal
 pub returns-then-at-len : goal.returns-then-at-len
 returns-then-at-len g c =
     let all = c.args.self.now.sites.items in
-    let f = view g.O.Object.rules g.N.Notary.means g.O.Object.value g.O.Object.before in
+    let f = view g.O.Object.rules g.N.Notary.means g.O.Object.holds in
     let long : length all ≤ c.args.site = omega (arith, c.args.self.now.sites.ok.0, c.len.ensures, c.if-at-len.true, c.from-at.ensures) in
     let past : length (map f all) ≤ c.args.site = omega (arith, length-map all f) in
     record { delivers = (slice_get_past (map f all) c.args.site past, refl); lives = tt }
@@ -27,7 +27,7 @@ returns g c =
     let below : i < length c.args.self.now.sites.items = omega (arith, c.args.self.now.sites.ok.0, c.len.ensures, c.if-at-len.false) in
     let more : c.push_reserved.new.self.items ≡ c.args.self.now.transcript.items ++ new ∷ [] =
     c.push_reserved.ensures.items ∙ ap (λ (l : List Entry). l ++ new ∷ []) c.in_ok-reserve.ensures.items in
-    let done = called_there R g.N.Notary.means g.O.Object.value g.O.Object.before c.index_mut.result.now c.call-result.new.self
+    let done = called_there R g.N.Notary.means g.O.Object.holds c.index_mut.result.now c.call-result.new.self
     c.args.self.now.sites.items c.args.self.now.transcript.items c.push_reserved.new.self.items new i c.args.site c.args.message.now c.args.output.now c.args.board.now
     c.call-result.new.output c.call-result.new.board c.call-result.result
     s below c.index_mut.ensures.value c.call-result.ensures.leaves c.call-result.ensures.same.0 c.call-result.ensures.same.1 more told in
