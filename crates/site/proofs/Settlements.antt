@@ -1,5 +1,6 @@
 -- A settlement's table beside the list of its claims.
-use Rattle.std.proofs.Common.{◌≡◌, ℕ, zero, suc, ◌+◌, ◌^◌, ◌<◌, ◌≤◌, eqb, ltb, List, [], ◌∷◌, length, set, Some, None, Option, sym, refl, subst, arith}
+use Rattle.std.proofs.Common.{◌≡◌, ℕ, zero, suc, ◌+◌, ◌^◌, ◌<◌, ◌≤◌, cond, eqb, ltb, List, [], ◌∷◌, length, set, is_some, Some, None, Option, sym, refl, subst, arith}
+use Rattle.std.proofs.lemmas.List.Sums.{sum_by-cons}
 use Rattle.std.proofs.lemmas.List.{length-replicate}
 use Rattle.std.proofs.lemmas.Bool.{cond_both, eqb-true}
 use Rattle.record.specs.Limits.{highest_round}
@@ -20,7 +21,9 @@ use Rattle.site.proofs.Likeness.{told, Sized, SizedRequest, SizedTable, SizedReq
 listed_long : (rs : List (Option Request)) (v at : ℕ) (g : List Claim) → length (listed rs v at g) ≡ how_many rs + length g
 listed_long [] v at g = omega arith
 listed_long (None ∷ rs) v at g = listed_long rs v at g
-listed_long (Some r ∷ rs) v at g = let k = listed_long rs v (at + 1) (told (claim_for r v at) ∷ g) in omega arith
+listed_long (Some r ∷ rs) v at g =
+    let one = sum_by-cons (λ x. cond (is_some x) 1 0) (Some r) rs in
+    omega (arith, one, listed_long rs v (at + 1) (told (claim_for r v at) ∷ g))
 
 listed_begins : (rs : List (Option Request)) (v at : ℕ) (g : List Claim) → Begins g (listed rs v at g)
 listed_begins [] v at g = whole

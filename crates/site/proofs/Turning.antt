@@ -1,30 +1,15 @@
 -- Loops over tables by client.
-use Rattle.std.proofs.Common.{◌≡◌, ℕ, zero, suc, ◌+◌, ◌-◌, ◌<◌, ◌≤◌, true, false, cond, eqb, ltb, List, [], ◌∷◌, length, get_or, drop, set, is_some, Some, None, Option, sym, refl, ap, ◌∙◌, arith}
+use Rattle.std.proofs.Common.{◌≡◌, ℕ, zero, suc, ◌+◌, ◌-◌, ◌<◌, ◌≤◌, cond, eqb, ltb, List, [], ◌∷◌, length, get_or, drop, set, Some, None, Option, sym, refl, ap, ◌∙◌, arith}
 use Rattle.std.proofs.lemmas.List.{at_drop_more}
-use Rattle.std.proofs.lemmas.Bool.{cond-true, cond-false, eq-eqb, ne_eqb, true≢false, false≢true, lt-ltb}
+use Rattle.std.proofs.lemmas.Bool.{cond-true, cond-false, eq-eqb, ne_eqb, lt-ltb}
 use Rattle.message.specs.Records.{records, statement_at, stated, no_statement}
 use Rattle.message.specs.Said.{request_of}
 use Rattle.message.specs.Saying.{requests_from}
 use Rattle.message.specs.declared.request.Request.{Request}
 use Rattle.record.specs.declared.fields.Claim.{Claim}
-use Rattle.site.specs.Settling.{claim_for, pending, all_pending, how_many, request_at}
+use Rattle.site.specs.Settling.{claim_for, pending, all_pending, request_at}
 use Rattle.site.specs.Tables.{tabled}
 use Rattle.site.specs.declared.state.Done.{Done}
-
--- One entry more is counted.
-with_none : (x : Option Request) (rest : List (Option Request)) → is_some x ≡ false → how_many (x ∷ rest) ≡ how_many rest
-with_none None rest e = refl
-with_none (Some r) rest e = absurd (true≢false e)
-
-with_some : (x : Option Request) (rest : List (Option Request)) → is_some x ≡ true → how_many (x ∷ rest) ≡ how_many rest + 1
-with_some None rest e = absurd (false≢true e)
-with_some (Some r) rest e = refl
-
-pub counted_none : (rs : List (Option Request)) (i : ℕ) → i < length rs → is_some (get_or rs i None) ≡ false → how_many (drop i rs) ≡ how_many (drop (i + 1) rs)
-counted_none rs i within none = at_drop_more how_many rs i None within ∙ with_none (get_or rs i None) (drop (i + 1) rs) none
-
-pub counted_some : (rs : List (Option Request)) (i : ℕ) → i < length rs → is_some (get_or rs i None) ≡ true → how_many (drop i rs) ≡ how_many (drop (i + 1) rs) + 1
-counted_some rs i within some = at_drop_more how_many rs i None within ∙ with_some (get_or rs i None) (drop (i + 1) rs) some
 
 -- One entry more is looked at.
 module _ (rs : List (Option Request)) (i round at place : ℕ) (within : i < length rs) where

@@ -1,5 +1,5 @@
 -- The settlement of a round, and the claims of which a site shows its grant.
-use Rattle.std.specs.Prelude.{ℕ, ◌+◌, cond, List, [], ◌∷◌, Some, None, Option, ◌==◌, nat_lt}
+use Rattle.std.specs.Prelude.{ℕ, ◌+◌, cond, List, [], ◌∷◌, count_by, Some, None, Option, is_some, ◌==◌, nat_lt}
 use Rattle.message.specs.declared.request.Request.{Request}
 use Rattle.record.specs.Claims.{no_operation}
 use Rattle.record.specs.Limits.{mark}
@@ -29,9 +29,7 @@ all_pending (r ∷ rs) (d ∷ ds) = pending r d ∷ all_pending rs ds
 
 -- How many requests a table has.
 abbrev pub how_many : List (Option Request) → ℕ
-how_many [] = 0
-how_many (None ∷ rs) = how_many rs
-how_many (Some r ∷ rs) = how_many rs + 1
+how_many requests = count_by is_some requests
 
 -- The last place of a settlement: the mark's is one above the target.
 abbrev pub last_place : Settlement → ℕ

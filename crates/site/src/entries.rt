@@ -6,8 +6,7 @@ ghost use Rattle.std.specs.Prelude.{◌≡◌, slice_set};
 pub fn get<T: Copy>(table: &[Option<T>], client: u8) -> Option<T>
     ensures { result ≡ entry table.now client }
 {
-    let i = usize::from(client);
-    if i < table.len() { table[i] } else { None }
+    table.get(usize::from(client)).copied().flatten()
 }
 
 /// Sets a client's entry, where it has one.
@@ -15,6 +14,7 @@ pub fn put<T: Copy>(table: &mut [Option<T>], client: u8, value: Option<T>)
     ensures { table.new ≡ slice_set table.old client value }
 {
     let i = usize::from(client);
+    // the length is asked, and no `get_mut`: what it lends of a generic slice tells nothing of the slice once it ends
     if i < table.len() {
         table[i] = value;
     }

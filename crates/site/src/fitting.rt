@@ -10,7 +10,7 @@ use message::Refusal;
 fn fit(f: u8, number: u8) -> bool
     ensures { result ≡ fit_figures f number }
 {
-    1 <= f && f <= HIGHEST_F && u16::from(number) <= 3 * u16::from(f)
+    (1..=HIGHEST_F).contains(&f) && u16::from(number) <= 3 * u16::from(f)
 }
 
 /// The check call: whether the figures of a site fit.

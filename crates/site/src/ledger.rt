@@ -66,10 +66,9 @@ impl Ledger {
     fn current_client(&self) -> u8
         ensures { result ≡ current_client self.now.current }
     {
-        match &self.current {
-            Some(current) => current.claim.client,
-            None => MARK,
-        }
+        self.current
+            .as_ref()
+            .map_or(MARK, |current| current.claim.client)
     }
 
     /// Takes the last write back, and says whether that calls the object.
@@ -77,14 +76,13 @@ impl Ledger {
         ensures said { result ≡ calls_back self.old.backup }
         ensures after { self.new ≡ taken_back self.old self.old.backup }
     {
-        let Some(backup) = self.backup else {
+        let Some(backup) = self.backup.take() else {
             return false;
         };
         let client = self.current_client();
         self.place = self.place.saturating_sub(1);
         self.current = backup.current;
         put(&mut self.done, client, backup.entry);
-        self.backup = None;
         backup.called
     }
 }

@@ -1,6 +1,7 @@
 //! What a site keeps, apart from its object.
 use message::Request;
 use record::{Claim, Place, Round};
+use std::fmt;
 
 /// The most bytes that a certificate has: eleven GRANTs.
 pub const CERTIFICATE: usize = 880;
@@ -74,6 +75,17 @@ pub enum Stage {
     Settling {
         last: u64,
     },
+}
+
+impl fmt::Display for Stage {
+    fn fmt<W: fmt::Write>(&self, f: &mut fmt::Formatter<W>) -> fmt::Result {
+        f.write_str(match self {
+            Stage::Open => "OPEN",
+            Stage::Frozen => "FROZEN",
+            Stage::Pulling { .. } => "PULLING",
+            Stage::Settling { .. } => "SETTLING",
+        })
+    }
 }
 
 /// All of it.

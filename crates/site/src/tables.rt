@@ -22,11 +22,7 @@ pub fn same(a: &Request, b: &Request) -> bool
 fn still_pending(request: &Option<Request>, last: &Option<Done>) -> Option<Request>
     ensures { result ≡ pending request.now last.now }
 {
-    match (request, last) {
-        (Some(request), Some(last)) if request.number <= last.claim.number => None,
-        (Some(request), _) => Some(*request),
-        (None, _) => None,
-    }
+    request.filter(|request| last.is_none_or(|last| last.claim.number < request.number))
 }
 
 /// The claim of a request to a round and place.
@@ -60,6 +56,7 @@ pub fn table_of(part: &Part<'_>) -> Requests
     ensures { result ≡ tabled (requests_in part.now.bytes.now) no_entries }
 {
     let mut table = [None; 16];
+    // a loop: a `fold` would hand the table from call to call of a closure, and says no more
     for i in 0..part.count() {
         let request = part.request(i);
         put(&mut table, request.client, Some(request));
@@ -73,22 +70,17 @@ pub fn pending_of(requests: &Requests, done: &[Option<Done>; 16]) -> Requests
 {
     let mut out = [None; 16];
     for i in 0..16 {
+        // `array::from_fn` in place of the loop did not prove: of a closure that it calls in turn nothing is known between the calls
         out[i] = still_pending(&requests[i], &done[i]);
     }
     out
 }
 
 /// How many requests a table has.
-fn count(requests: &Requests) -> u8
+fn count(requests: &Requests) -> usize
     ensures { result ≡ how_many requests.now }
 {
-    let mut n = 0;
-    for request in requests {
-        if request.is_some() {
-            n += 1;
-        }
-    }
-    n
+    requests.iter().filter(|request| request.is_some()).count()
 }
 
 /// The claim of a table's requests to a place: they have the places from `first` on, in their clients' order.
@@ -97,6 +89,7 @@ fn request_at(requests: &Requests, round: Round, first: u64, place: Place) -> Op
     ensures { result ≡ request_at requests.now round first place }
 {
     let mut at = first;
+    // a loop: of `iter().flatten().nth(..)` it did not prove which request it gives
     for request in requests {
         if let Some(request) = request {
             if at == u64::from(place) {
@@ -113,7 +106,7 @@ impl Settlement {
     pub fn last_place(&self) -> u64
         ensures { result ≡ last_place self.now }
     {
-        u64::from(self.target) + 1 + u64::from(count(&self.requests))
+        u64::from(self.target) + 1 + count(&self.requests) as u64
     }
 
     /// The claim to a place, if the settlement has one.

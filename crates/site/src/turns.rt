@@ -53,10 +53,10 @@ impl State {
         }
         let waits = get(&self.asked.waiting, request.client);
         queued(&self.asked.out, &waits, request, self.ledger.place, index)?;
-        let claim = match self.asked.out {
-            Some(claim) => claim,
-            None => claim_for(request, self.round, self.ledger.place + 1),
-        };
+        let claim = self
+            .asked
+            .out
+            .unwrap_or_else(|| claim_for(request, self.round, self.ledger.place + 1));
         self.asked.out = Some(claim);
         put(&mut self.asked.waiting, request.client, Some(*request));
         Ok(Reply::Says(Statement::grant(site, &claim)))
@@ -88,40 +88,32 @@ impl State {
     pub(crate) fn show_grant(&self, site: u8, place: Place) -> Result<Reply, SiteFault>
         ensures { result ≡ (grant_shown site self.now (or_out (settled_at self.now.settlement self.now.round place) self.now.asked.out place)).reply }
     {
-        match self.granted_at(place) {
-            Some(claim) => Ok(Reply::Says(Statement::grant(site, &claim))),
-            None => Err(SiteFault::Nothing),
-        }
+        let claim = self.granted_at(place).ok_or(SiteFault::Nothing)?;
+        Ok(Reply::Says(Statement::grant(site, &claim)))
     }
 
     /// The current certificate.
     pub(crate) fn show_cert(&self) -> Result<Reply, SiteFault>
         ensures { result ≡ (cert_shown self.now self.now.ledger.current).reply }
     {
-        match self.ledger.current {
-            Some(_) => Ok(Reply::Shows),
-            None => Err(SiteFault::Nothing),
+        if self.ledger.current.is_none() {
+            return Err(SiteFault::Nothing);
         }
+        Ok(Reply::Shows)
     }
 
     fn granted_at(&self, place: Place) -> Option<Claim>
         ensures { result ≡ or_out (settled_at self.now.settlement self.now.round place) self.now.asked.out place }
     {
-        if let Some(claim) = self.settled_at(place) {
-            return Some(claim);
-        }
-        match self.asked.out {
-            Some(claim) if claim.place == place => Some(claim),
-            _ => None,
-        }
+        self.settled_at(place)
+            .or(self.asked.out.filter(|claim| claim.place == place))
     }
 
     fn settled_at(&self, place: Place) -> Option<Claim>
         ensures { result ≡ settled_at self.now.settlement self.now.round place }
     {
-        match &self.settlement {
-            Some(settlement) => settlement.claim_at(self.round, place),
-            None => None,
-        }
+        self.settlement
+            .as_ref()
+            .and_then(|settlement| settlement.claim_at(self.round, place))
     }
 }
