@@ -19,8 +19,8 @@ use office::{Judged, Office, Ticket, Unspent};
 pub fn close<N: Notary, O: Object>(office: &mut Office<N>, ticket: Ticket) -> Result<u64, Unspent>
     ensures desk { office.new.desk ≡ (close_call office.old.figures.f office.old.figures.client office.old.desk ticket).desk }
     ensures result { result ≡ (close_call office.old.figures.f office.old.figures.client office.old.desk ticket).result }
-    ensures confirmed { IfOk result (λ a. WriteConfirmed office.old.figures.f office.old.figures.client (N.Notary.means office.old.notary) office.old.desk.write a) }
-    ensures in_book { IfOk result (λ a. WriteInBook O.Object.rules office.old.figures.f office.old.figures.client (N.Notary.means office.old.notary) office.old.desk a) }
+    ensures confirmed { IfOk result (λ a. WriteConfirmed office.old.figures.f office.old.figures.client (N.means office.old.notary) office.old.desk.write a) }
+    ensures in_book { IfOk result (λ a. WriteInBook O.rules office.old.figures.f office.old.figures.client (N.means office.old.notary) office.old.desk a) }
     ensures back { ComesBack ticket office.old.desk office.new.desk result }
     ensures same { (office.new.notary ≡ office.old.notary) × (office.new.figures ≡ office.old.figures) }
 {
@@ -36,8 +36,8 @@ pub fn judge<N: Notary, O: Object>(
     ensures leaves { Leaves (judge_call office.now.figures.f office.now.figures.client office.now.desk output.old board.old) office.now.desk output.new board.new result }
     ensures exact { IfOk result (λ j. Exact an_answer (quorum_of office.now.figures.f) office.now.desk.replies.at j.verdict) }
     ensures only { IfOk result (λ j. OneAnswer an_answer (quorum_of office.now.figures.f) office.now.desk.replies.at j.verdict) }
-    ensures worth { IfOk result (λ j. Worth office.now.figures.f office.now.figures.client (N.Notary.means office.now.notary) office.now.desk j.verdict (take j.count output.new)) }
-    ensures in_book { IfOk result (λ j. VerdictInBook (WriteInBook O.Object.rules office.now.figures.f office.now.figures.client (N.Notary.means office.now.notary) office.now.desk) j.verdict) }
+    ensures worth { IfOk result (λ j. Worth office.now.figures.f office.now.figures.client (N.means office.now.notary) office.now.desk j.verdict (take j.count output.new)) }
+    ensures in_book { IfOk result (λ j. VerdictInBook (WriteInBook O.rules office.now.figures.f office.now.figures.client (N.means office.now.notary) office.now.desk) j.verdict) }
 {
     office.judge(output, board)
 }
@@ -52,8 +52,8 @@ pub fn judge_reading<N: Notary, O: Object>(
     ensures leaves { Leaves (judge_reading_call office.now.figures.f office.now.desk output.now board.old) office.now.desk output.now board.new result }
     ensures exact { IfOk result (λ j. Exact a_read_answer (quorum_of office.now.figures.f) office.now.desk.readings.at j.verdict) }
     ensures only { IfOk result (λ j. OneAnswer a_read_answer (quorum_of office.now.figures.f) office.now.desk.readings.at j.verdict) }
-    ensures worth { IfOk result (λ j. ReadingWorth office.now.figures.f office.now.figures.client (N.Notary.means office.now.notary) office.now.desk j.verdict) }
-    ensures in_book { IfOk result (λ j. VerdictInBook (ReadingInBook O.Object.rules office.now.figures.f office.now.figures.client (N.Notary.means office.now.notary) office.now.desk) j.verdict) }
+    ensures worth { IfOk result (λ j. ReadingWorth office.now.figures.f office.now.figures.client (N.means office.now.notary) office.now.desk j.verdict) }
+    ensures in_book { IfOk result (λ j. VerdictInBook (ReadingInBook O.rules office.now.figures.f office.now.figures.client (N.means office.now.notary) office.now.desk) j.verdict) }
 {
     office.judge_reading(output, board)
 }
