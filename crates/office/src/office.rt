@@ -21,7 +21,7 @@ pub struct Office<N: Notary> {
     notary: N,
     desk: Desk,
     // every reply that is filed is good
-    ghost sound: { Sound figures.f figures.client (N.Notary.means notary) desk },
+    ghost sound: { Sound figures.f figures.client (N.means notary) desk },
 }
 
 impl<N: Notary> Office<N> {

@@ -14,7 +14,7 @@ impl<N: Notary> Office<N> {
     pub fn close(&mut self, ticket: Ticket) -> Result<u64, Unspent>
         ensures desk { self.new.desk ≡ (close_call self.old.figures.f self.old.figures.client self.old.desk ticket).desk }
         ensures result { result ≡ (close_call self.old.figures.f self.old.figures.client self.old.desk ticket).result }
-        ensures confirmed { IfOk result (λ a. WriteConfirmed self.old.figures.f self.old.figures.client (N.Notary.means self.old.notary) self.old.desk.write a) }
+        ensures confirmed { IfOk result (λ a. WriteConfirmed self.old.figures.f self.old.figures.client (N.means self.old.notary) self.old.desk.write a) }
         ensures back { ComesBack ticket self.old.desk self.new.desk result }
         ensures same { (self.new.notary ≡ self.old.notary) × (self.new.figures ≡ self.old.figures) }
     {

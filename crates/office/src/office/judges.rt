@@ -47,7 +47,7 @@ impl<N: Notary> Office<N> {
         ensures leaves { Leaves (judge_call self.now.figures.f self.now.figures.client self.now.desk output.old board.old) self.now.desk output.new board.new result }
         ensures exact { IfOk result (λ j. Exact an_answer (quorum_of self.now.figures.f) self.now.desk.replies.at j.verdict) }
         ensures only { IfOk result (λ j. OneAnswer an_answer (quorum_of self.now.figures.f) self.now.desk.replies.at j.verdict) }
-        ensures worth { IfOk result (λ j. Worth self.now.figures.f self.now.figures.client (N.Notary.means self.now.notary) self.now.desk j.verdict (take j.count output.new)) }
+        ensures worth { IfOk result (λ j. Worth self.now.figures.f self.now.figures.client (N.means self.now.notary) self.now.desk j.verdict (take j.count output.new)) }
     {
         self.verdict(output, board)
     }
@@ -72,7 +72,7 @@ impl<N: Notary> Office<N> {
         ensures leaves { Leaves (judge_reading_call self.now.figures.f self.now.desk output.now board.old) self.now.desk output.now board.new result }
         ensures exact { IfOk result (λ j. Exact a_read_answer (quorum_of self.now.figures.f) self.now.desk.readings.at j.verdict) }
         ensures only { IfOk result (λ j. OneAnswer a_read_answer (quorum_of self.now.figures.f) self.now.desk.readings.at j.verdict) }
-        ensures worth { IfOk result (λ j. ReadingWorth self.now.figures.f self.now.figures.client (N.Notary.means self.now.notary) self.now.desk j.verdict) }
+        ensures worth { IfOk result (λ j. ReadingWorth self.now.figures.f self.now.figures.client (N.means self.now.notary) self.now.desk j.verdict) }
     {
         self.reading_verdict(output, board)
     }

@@ -21,7 +21,7 @@ impl<N: Notary> Office<N> {
         room: usize,
         board: &mut [u8],
     ) -> Result<&'a [u8; RECORD], CertificateFault>
-        ensures value { lent result ≡ after (in_certificate (buffers_fitted room (length board.old))) (vouched_reply self.now.figures.client (N.Notary.means self.now.notary) self.now.desk (read_reply self.now.figures.f message.now)) }
+        ensures value { lent result ≡ after (in_certificate (buffers_fitted room (length board.old))) (vouched_reply self.now.figures.client (N.means self.now.notary) self.now.desk (read_reply self.now.figures.f message.now)) }
         ensures board { board.new ≡ board_after room board.old }
     {
         ready(room, board)?;
@@ -40,8 +40,8 @@ impl<N: Notary> Office<N> {
 
     /// The checks of a reply, and where it is filed.
     fn accept(&mut self, message: &[u8], room: usize, board: &mut [u8]) -> Result<(), SiteFault>
-        ensures desk { self.new.desk ≡ desk_or self.old.desk (fits_first room (length board.old) (taken_by self.old.figures.f self.old.figures.client (N.Notary.means self.old.notary) self.old.desk message.now)) }
-        ensures result { result ≡ done_or (fits_first room (length board.old) (taken_by self.old.figures.f self.old.figures.client (N.Notary.means self.old.notary) self.old.desk message.now)) }
+        ensures desk { self.new.desk ≡ desk_or self.old.desk (fits_first room (length board.old) (taken_by self.old.figures.f self.old.figures.client (N.means self.old.notary) self.old.desk message.now)) }
+        ensures result { result ≡ done_or (fits_first room (length board.old) (taken_by self.old.figures.f self.old.figures.client (N.means self.old.notary) self.old.desk message.now)) }
         ensures board { board.new ≡ board_after room board.old }
         ensures stays { self.new.desk.write ≡ self.old.desk.write }
         ensures same { (self.new.notary ≡ self.old.notary) × (self.new.figures ≡ self.old.figures) }
@@ -58,7 +58,7 @@ impl<N: Notary> Office<N> {
         output: &[u8],
         board: &mut [u8],
     ) -> Result<usize, Refusal>
-        ensures leaves { Leaves (take_call self.old.figures.f self.old.figures.client (N.Notary.means self.old.notary) self.old.desk message.now output.now board.old) self.new.desk output.now board.new result }
+        ensures leaves { Leaves (take_call self.old.figures.f self.old.figures.client (N.means self.old.notary) self.old.desk message.now output.now board.old) self.new.desk output.now board.new result }
         ensures stays { self.new.desk.write ≡ self.old.desk.write }
         ensures same { (self.new.notary ≡ self.old.notary) × (self.new.figures ≡ self.old.figures) }
     {
