@@ -36,8 +36,8 @@ pub fn first_outside(f: u8, message: &[u8]) -> Option<usize>
     (0..records(message)).find(|i| !statement_at(message, *i).in_range(f))
 }
 
-#[tactic(auto, using(crate::proofs::Read::readable))]
 /// LENGTH, KIND and FIELD: the form of a message whose records are each in range.
+#[tactic(auto, using(crate::proofs::Read::readable))]
 pub fn read_form(f: u8, message: &[u8]) -> Result<Form, MessageFault>
     ensures value { result ≡ read_form f message.now }
     ensures readable { IfOk result (λ form. Readable f message.now form) }

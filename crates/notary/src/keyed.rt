@@ -64,8 +64,8 @@ fn same_seal(a: &Seal, b: &Seal) -> bool
 }
 
 impl KeyedNotary {
-    #[tactic(auto, using(crate::proofs::Accepting::prepared_as_keys))]
     /// The notary that knows these keys, by the numbers of sites and of clients.
+    #[tactic(auto, using(crate::proofs::Accepting::prepared_as_keys))]
     pub fn new(sites: &[Key; MEMBERS], clients: &[Key; MEMBERS]) -> KeyedNotary
         ensures { (bytes : List ℕ) → sealed_under result.sites result.clients bytes ≡ keyed sites.now clients.now bytes }
     {
