@@ -3,9 +3,7 @@ ghost use Rattle.std.specs.Prelude.{◌≡◌, ◌<◌, OnOk};
 ghost use Rattle.site.specs.Answers.{stored as stored_for, room as room_at, granting as granting_at, queued as queued_for, placed as placed_at, taken as taken_at};
 
 use crate::state::Done;
-use crate::tables::same;
 use message::{Request, SiteFault};
-use record::claims::same_operation;
 use record::limits::HIGHEST_ROUND;
 use record::{Claim, Operation, Place, Round, Statement};
 
@@ -28,7 +26,7 @@ pub fn stored(
     if number != last.claim.number {
         return Ok(None);
     }
-    if same_operation(operation, &last.claim.operation) {
+    if *operation == last.claim.operation {
         Ok(Some(Statement::answer(site, &last.claim, last.answer)))
     } else {
         Err(SiteFault::Spent(index))
@@ -58,7 +56,7 @@ pub fn queued(
     let Some(waits) = waits else {
         return room(place, index);
     };
-    if !same(waits, request) {
+    if waits != request {
         return Err(SiteFault::Busy(index));
     }
     match out {

@@ -20,11 +20,7 @@ pub fn check_figures(f: u8, number: u8) -> Result<(), Refusal>
     if fit(f, number) {
         Ok(())
     } else {
-        Err(Refusal {
-            number: 4,
-            index: 0,
-            layer: 3,
-        })
+        Err(Refusal::UNFIT)
     }
 }
 

@@ -2,21 +2,13 @@
 ghost use Rattle.std.specs.Prelude.{◌≡◌, ◌+◌, ◌^◌, ◌<◌, Some};
 ghost use Rattle.message.specs.Saying.{requests_in};
 ghost use Rattle.site.specs.Settling.{claim_for, mark_claim, pending, all_pending, how_many, last_place, request_at, settled_at};
-ghost use Rattle.site.specs.Tables.{no_entries, same_request, tabled};
+ghost use Rattle.site.specs.Tables.{no_entries, tabled};
 
 use crate::entries::put;
 use crate::state::{Done, Requests, Settlement};
 use message::{Part, Request};
-use record::claims::same_operation;
 use record::limits::MARK;
 use record::{Claim, Place, Round};
-
-/// Whether two requests are the same.
-pub fn same(a: &Request, b: &Request) -> bool
-    ensures { result ≡ same_request a.now b.now }
-{
-    a.client == b.client && a.number == b.number && same_operation(&a.operation, &b.operation)
-}
 
 /// The request of an entry, if it is still to be done.
 fn still_pending(request: &Option<Request>, last: &Option<Done>) -> Option<Request>
