@@ -23,6 +23,7 @@ impl Accounts {
     }
 
     // Moves an amount from an account that holds it to another.
+    #[tactic(auto, using(crate::proofs::Totals::moved_total, crate::proofs::Totals::moved_fits))]
     pub fn transfer(&mut self, from: usize, to: usize, amount: u32)
         requires gives { from < 16 }
         requires takes { to < 16 }

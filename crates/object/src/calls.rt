@@ -26,6 +26,7 @@ pub fn apply<O: Object>(object: &mut O, call: &Call)
 }
 
 // Makes each call of a list, one after another.
+#[tactic(auto, using(std::proofs::lemmas::List::at_drop_more, std::proofs::lemmas::List::at_drop_all))]
 pub fn replay<O: Object>(object: &mut O, calls: &[Call])
     ensures { O.holds object.new ≡ run O.rules (O.holds object.old) calls.now }
 {

@@ -21,6 +21,7 @@ pub fn titles_move_by_right()
 {}
 
 // A holder is a client from 0 to 15.
+#[tactic(auto, using(crate::proofs::TitlesProofs::holders_are_clients))]
 pub fn holders_are_clients()
     ensures { HoldersAreClients }
 {}
@@ -31,6 +32,7 @@ pub fn total_never_changes()
 {}
 
 // Slots leave no account but the writer's, and a move to oneself changes nothing.
+#[tactic(auto, using(crate::proofs::SlotsProofs::only_the_writer_pays, crate::proofs::SlotsProofs::move_to_oneself))]
 pub fn only_the_writer_pays()
     ensures pays { OnlyTheWriterPays }
     ensures own { MoveToOneselfChangesNothing }

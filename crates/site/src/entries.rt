@@ -10,6 +10,7 @@ pub fn get<T: Copy>(table: &[Option<T>], client: u8) -> Option<T>
 }
 
 /// Sets a client's entry, where it has one.
+#[tactic(auto, using(std::proofs::lemmas::List::set_past))]
 pub fn put<T: Copy>(table: &mut [Option<T>], client: u8, value: Option<T>)
     ensures { table.new ≡ slice_set table.old client value }
 {

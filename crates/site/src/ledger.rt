@@ -27,6 +27,7 @@ impl Performed {
 }
 
 /// A certificate as it is kept: its bytes, then zeros.
+#[tactic(auto, using(crate::proofs::Keeping::over_zeros))]
 fn kept(certificate: &[u8]) -> [u8; CERTIFICATE]
     ensures { result ≡ kept_bytes certificate.now }
 {

@@ -25,6 +25,7 @@ impl State {
 
     /// What a site becomes once it has done the write of a message: PULLING that reaches its target settles, and SETTLING
     /// that reaches its last place is open.
+    #[tactic(auto, using(crate::proofs::Matching::settles, crate::proofs::Matching::opens))]
     pub(crate) fn then(&self, message: &Message<'_>) -> Then
         ensures { result ≡ then_in self.now.stage (sent message.now) }
     {
