@@ -4,9 +4,9 @@ ghost use Rattle.message.specs.Checks.{fitted as buffers_fitted};
 ghost use Rattle.office.specs.Calls.{board_after};
 ghost use Rattle.office.specs.Taking.{in_certificate};
 
+use message::CertificateFault;
 use message::board::Counting;
 use message::reading::fitting;
-use message::CertificateFault;
 
 /// SHORT, and then the board with zeros, whatever it had.
 pub(crate) fn ready(room: usize, board: &mut [u8]) -> Result<(), CertificateFault>

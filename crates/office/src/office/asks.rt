@@ -13,23 +13,6 @@ use record::limits::RECORD;
 use record::{Operation, Statement};
 
 impl<N: Notary> Office<N> {
-    /// The number of a write that is begun.
-    fn open(
-        &mut self,
-        operation: &Operation,
-        room: usize,
-        board: &mut [u8],
-    ) -> Result<u32, SiteFault>
-        ensures number { result ≡ fits_first room (length board.old) (number_begun self.old.desk self.old.desk.write) }
-        ensures desk { self.new.desk ≡ if_begun self.old.desk operation.now result }
-        ensures board { board.new ≡ board_after room board.old }
-        ensures room { OnOk result (880 ≤ room) }
-        ensures same { (self.new.notary ≡ self.old.notary) × (self.new.figures ≡ self.old.figures) }
-    {
-        ready(room, board)?;
-        self.desk.open(operation)
-    }
-
     /// BEGIN: writes the REQUEST for a write under the next number, its seal still to be filled in, and gives the ticket.
     pub fn begin(
         &mut self,
@@ -42,7 +25,8 @@ impl<N: Notary> Office<N> {
         ensures same { (self.new.notary ≡ self.old.notary) × (self.new.figures ≡ self.old.figures) }
     {
         let client = self.figures.client;
-        let number = self.open(operation, output.len(), board)?;
+        ready(output.len(), board)?;
+        let number = self.desk.open(operation)?;
         put(
             output,
             0,

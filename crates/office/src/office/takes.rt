@@ -38,19 +38,6 @@ impl<N: Notary> Office<N> {
         Ok(bytes)
     }
 
-    /// The checks of a reply, and where it is filed.
-    fn accept(&mut self, message: &[u8], room: usize, board: &mut [u8]) -> Result<(), SiteFault>
-        ensures desk { self.new.desk ≡ desk_or self.old.desk (fits_first room (length board.old) (taken_by self.old.figures.f self.old.figures.client (N.means self.old.notary) self.old.desk message.now)) }
-        ensures result { result ≡ done_or (fits_first room (length board.old) (taken_by self.old.figures.f self.old.figures.client (N.means self.old.notary) self.old.desk message.now)) }
-        ensures board { board.new ≡ board_after room board.old }
-        ensures stays { self.new.desk.write ≡ self.old.desk.write }
-        ensures same { (self.new.notary ≡ self.old.notary) × (self.new.figures ≡ self.old.figures) }
-    {
-        let bytes = self.vouched(message, room, board)?;
-        let reply = Record::read(bytes);
-        self.desk.accept(self.figures.client, &reply)
-    }
-
     /// TAKE: takes in a reply of a site. It writes nothing.
     pub fn take(
         &mut self,
@@ -62,7 +49,8 @@ impl<N: Notary> Office<N> {
         ensures stays { self.new.desk.write ≡ self.old.desk.write }
         ensures same { (self.new.notary ≡ self.old.notary) × (self.new.figures ≡ self.old.figures) }
     {
-        self.accept(message, output.len(), board)?;
+        let bytes = self.vouched(message, output.len(), board)?;
+        self.desk.accept(self.figures.client, &Record::read(bytes))?;
         Ok(0)
     }
 }

@@ -1,7 +1,7 @@
 use Rattle.std.proofs.Common.{refl, ap, ◌∙◌}
 use Rattle.office.proofs.Keeping.{begun_sound, sound_as}
 use Rattle.office.specs.Calls.{if_begun, number_begun}
-use Rattle.office.proofs.office.Office.open.Goals as goal
+use Rattle.office.proofs.office.Office.begin.Goals as goal
 
 pub invariant_of-self : goal.invariant_of-self
 invariant_of-self g c =
