@@ -49,6 +49,7 @@ impl<N: Notary, O: Object> Pool<N, O> {
     }
 
     /// Hands a message to a site, with an output for the reply and a board, and gives what the site's call returned.
+    // The result in the result is plain: the outer one says whether the message came to a site, the inner one is what the site said.
     pub fn deliver(
         &mut self,
         heap: Global,

@@ -1,6 +1,6 @@
 -- Loops over tables by client.
 use Rattle.std.proofs.Common.{◌≡◌, ℕ, zero, suc, ◌+◌, ◌-◌, ◌<◌, ◌≤◌, cond, eqb, ltb, List, [], ◌∷◌, length, get_or, drop, set, Some, None, Option, sym, refl, ap, ◌∙◌, arith}
-use Rattle.std.proofs.lemmas.List.{at_drop_more}
+use Rattle.std.proofs.lemmas.List.{at_drop_more, ext_get_or}
 use Rattle.std.proofs.lemmas.Bool.{cond-true, cond-false, eq-eqb, ne_eqb, lt-ltb}
 use Rattle.message.specs.Records.{records, statement_at, stated, no_statement}
 use Rattle.message.specs.Said.{request_of}
@@ -38,17 +38,23 @@ module _ (rs : List (Option Request)) (i round at place : ℕ) (within : i < len
       sym (cond-true (eqb at place) (Some (claim_for r round place)) (request_at (drop (i + 1) rs) round (at + 1) place) (eq-eqb at place same)) ∙ sym (looked_some r e) ∙ so_far
 
 -- The entries of a table of pending requests.
-pub pending_at : (rs : List (Option Request)) (ds : List (Option Done)) (k : ℕ) → get_or (all_pending rs ds) k None ≡ pending (get_or rs k None) (get_or ds k None)
+pending_at : (rs : List (Option Request)) (ds : List (Option Done)) (k : ℕ) → get_or (all_pending rs ds) k None ≡ pending (get_or rs k None) (get_or ds k None)
 pending_at [] ds k = refl
 pending_at (r ∷ rs) [] zero = refl
 pending_at (r ∷ rs) (d ∷ ds) zero = refl
 pending_at (r ∷ rs) [] (suc k) = pending_at rs [] k
 pending_at (r ∷ rs) (d ∷ ds) (suc k) = pending_at rs ds k
 
-pub pending_long : (rs : List (Option Request)) (ds : List (Option Done)) → length (all_pending rs ds) ≡ length rs
+pending_long : (rs : List (Option Request)) (ds : List (Option Done)) → length (all_pending rs ds) ≡ length rs
 pending_long [] ds = refl
 pending_long (r ∷ rs) [] = ap suc (pending_long rs [])
 pending_long (r ∷ rs) (d ∷ ds) = ap suc (pending_long rs ds)
+
+-- A table that has at each entry what is still to be done there has all that is.
+pub filled_in : (out rs : List (Option Request)) (ds : List (Option Done)) → length out ≡ length rs →
+    ((k : ℕ) → k < length rs → get_or out k None ≡ pending (get_or rs k None) (get_or ds k None)) → out ≡ all_pending rs ds
+filled_in out rs ds long each =
+    ext_get_or None out (all_pending rs ds) (long ∙ sym (pending_long rs ds)) (λ k within. each k (omega (arith, long)) ∙ sym (pending_at rs ds k))
 
 -- One request more is entered.
 next_request : (m : List ℕ) (i n : ℕ) → i < n → requests_from m i (n - i) ≡ request_of (statement_at m i) ∷ requests_from m (i + 1) (n - (i + 1))

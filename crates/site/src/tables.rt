@@ -44,6 +44,7 @@ pub fn mark_claim(round: Round, place: Place) -> Claim
 }
 
 /// The requests of a part, each at its client's entry.
+#[tactic(auto, using(crate::proofs::Turning::entered, crate::proofs::Turning::none_left))]
 pub fn table_of(part: &Part<'_>) -> Requests
     ensures { result ≡ tabled (requests_in part.now.bytes.now) no_entries }
 {
@@ -57,6 +58,7 @@ pub fn table_of(part: &Part<'_>) -> Requests
 }
 
 /// The requests of a table that are still to be done.
+#[tactic(auto, using(crate::proofs::Turning::filled_in))]
 pub fn pending_of(requests: &Requests, done: &[Option<Done>; 16]) -> Requests
     ensures { result ≡ all_pending requests.now done.now }
 {
@@ -76,6 +78,7 @@ fn count(requests: &Requests) -> usize
 }
 
 /// The claim of a table's requests to a place: they have the places from `first` on, in their clients' order.
+#[tactic(auto, using(std::proofs::lemmas::List::at_drop_all, crate::proofs::Turning::passed_none, crate::proofs::Turning::passed_some, crate::proofs::Turning::found_some))]
 fn request_at(requests: &Requests, round: Round, first: u64, place: Place) -> Option<Claim>
     requires { first + 16 < 2 ^ 64 }
     ensures { result ≡ request_at requests.now round first place }
