@@ -41,6 +41,7 @@ fn target(f: u8, message: &[u8], grants: usize) -> Place
 }
 
 impl<'a> Formed<'a> {
+    #[tactic(auto, using(crate::proofs::HeldParts::small_group))]
     /// A group of the message: `n` records from index `first` on.
     fn group(&self, first: usize, n: usize) -> Group<'a>
         requires { first + n ≤ records self.now.message.now }

@@ -2,7 +2,6 @@
 ghost use Rattle.std.specs.Prelude.{◌≡◌, ◌+◌, ◌<◌, ◌≤◌};
 ghost use Rattle.message.specs.Records.{records, stated, group};
 ghost use Rattle.message.specs.Said.{request_of};
-ghost use Rattle.message.specs.Sizes.{SmallSigners};
 ghost use Rattle.record.specs.Claims.{claim_of};
 
 use crate::records::{records, statement_at};
@@ -26,10 +25,9 @@ impl<'a> Part<'a> {
         requires { first + n ≤ records message.now }
         ensures bytes { result.bytes.now ≡ group message.now first n }
         ensures first { result.first ≡ first }
-        ensures signers { SmallSigners message.now → SmallSigners result.bytes.now }
     {
         Part {
-            bytes: &message[RECORD * first..RECORD * first + RECORD * n],
+            bytes: &message[RECORD * first..][..RECORD * n],
             first,
         }
     }

@@ -1,6 +1,6 @@
 //! Telling the form of a message by the kinds of its records.
 ghost use Rattle.std.specs.Prelude.{◌≡◌, ◌+◌, ◌<◌, ◌≤◌};
-ghost use Rattle.message.specs.Forms.{quorum, is_kind, all_kind, lone, ends_in_requests, write_2_form, resolve_form, bare_round_form, full_round_form, lone_form_of, quorum_form_of, pool_form_of, form_of};
+ghost use Rattle.message.specs.Forms.{quorum, is_kind, all_kind, ends_in_requests, write_2_form, resolve_form, bare_round_form, full_round_form, lone_form_of, quorum_form_of, pool_form_of, form_of};
 ghost use Rattle.message.specs.Records.{records};
 
 use crate::form::Form;
@@ -29,13 +29,6 @@ fn all_kind(kind: Kind, message: &[u8], first: usize, n: usize) -> bool
     ensures { result ≡ all_kind kind message.now first n }
 {
     (first..first + n).all(|i| is_kind(kind, message, i))
-}
-
-/// Whether the message is one record, of a kind.
-fn lone(kind: Kind, message: &[u8]) -> bool
-    ensures { result ≡ lone kind message.now }
-{
-    records(message) == 1 && is_kind(kind, message, 0)
 }
 
 /// Whether there are REQUESTs, at most sixteen, from index `i` to the end of the message.
@@ -86,16 +79,15 @@ fn is_full_round(q: usize, message: &[u8]) -> bool
 fn lone_form(message: &[u8]) -> Option<Form>
     ensures { result ≡ lone_form_of message.now }
 {
-    if lone(Kind::Request, message) {
-        Some(Form::Write1)
-    } else if lone(Kind::Question, message) {
-        Some(Form::Read)
-    } else if lone(Kind::ShowGrant, message) {
-        Some(Form::ShowGrant)
-    } else if lone(Kind::ShowCert, message) {
-        Some(Form::ShowCert)
-    } else {
-        None
+    if records(message) != 1 {
+        return None;
+    }
+    match Kind::try_from(statement_at(message, 0).kind).ok()? {
+        Kind::Request => Some(Form::Write1),
+        Kind::Question => Some(Form::Read),
+        Kind::ShowGrant => Some(Form::ShowGrant),
+        Kind::ShowCert => Some(Form::ShowCert),
+        Kind::Grant | Kind::Answer | Kind::ReadAnswer | Kind::Start => None,
     }
 }
 

@@ -1,13 +1,7 @@
--- Claims, statements and records with equal fields are equal.
+-- Statements and records with equal fields are equal.
 use Rattle.std.proofs.Common.{◌≡◌, ℕ, List}
-use Rattle.record.specs.declared.fields.Claim.{Claim}
 use Rattle.record.specs.declared.fields.Record.{Record}
 use Rattle.record.specs.declared.fields.Statement.{Statement}
-
-pub same_claims : {c c' n n' r r' p p' : ℕ} {o o' : List ℕ} → c ≡ c' → n ≡ n' → r ≡ r' → p ≡ p' → o ≡ o' →
-    ◌≡◌ {A = Claim} record { client = c; number = n; round = r; place = p; operation = o }
-    record { client = c'; number = n'; round = r'; place = p'; operation = o' }
-same_claims ec en er ep eo = cc
 
 pub same_statements : {k k' s s' c c' z z' n n' r r' p p' a a' m m' : ℕ} {o o' : List ℕ} →
     k ≡ k' → s ≡ s' → c ≡ c' → z ≡ z' → n ≡ n' → r ≡ r' → p ≡ p' → o ≡ o' → a ≡ a' → m ≡ m' →
