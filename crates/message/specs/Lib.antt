@@ -8,3 +8,4 @@ pub mod Saying
 pub mod Checks
 pub mod Refusals
 pub mod Laws
+pub mod Words

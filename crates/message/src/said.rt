@@ -30,7 +30,13 @@ pub enum Message<'a> {
     ShowCert,
 }
 
+/// The word for a message's form.
 impl fmt::Display for Message<'_> {
+    ghost use Rattle.message.specs.Words.{form_word};
+    ghost use Rattle.std.specs.Prelude.{Some};
+
+    ghost output = { λ message. Some (form_word message) };
+
     fn fmt<W: fmt::Write>(&self, f: &mut fmt::Formatter<W>) -> fmt::Result {
         f.write_str(match self {
             Message::Write1 { .. } => "WRITE-1",

@@ -1,5 +1,5 @@
 -- The eight kinds of record and their numbers.
-use Rattle.std.specs.Prelude.{ℕ, cond, Some, None, Option, Result, ◌==◌}
+use Rattle.std.specs.Prelude.{ℕ, cond, List, codes, Some, None, Option, Result, ◌==◌}
 use Rattle.std.specs.Option.{ok_or}
 use Rattle.record.specs.declared.kind.Kind.{Kind}
 use Rattle.record.specs.declared.kind.UnknownKind.{UnknownKind}
@@ -31,3 +31,14 @@ kind_of n =
 -- The kind that a number stands for, or the number that no kind has.
 abbrev pub known_kind : ℕ → Result Kind UnknownKind
 known_kind n = ok_or (kind_of n) (record { 0 = n })
+
+-- The word for each kind.
+abbrev pub kind_word : Kind → List ℕ
+kind_word Request = codes "REQUEST"
+kind_word Grant = codes "GRANT"
+kind_word Question = codes "QUESTION"
+kind_word Answer = codes "ANSWER"
+kind_word ReadAnswer = codes "READ-ANSWER"
+kind_word Start = codes "START"
+kind_word ShowGrant = codes "SHOW-GRANT"
+kind_word ShowCert = codes "SHOW-CERT"

@@ -1,6 +1,6 @@
 // The kinds of record.
-ghost use Rattle.record.specs.Kinds.{kind_number, kind_of, known_kind};
-ghost use Rattle.std.specs.Prelude.{◌≡◌};
+ghost use Rattle.record.specs.Kinds.{kind_number, kind_of, kind_word, known_kind};
+ghost use Rattle.std.specs.Prelude.{◌≡◌, Some};
 
 use std::error::Error;
 use std::fmt;
@@ -76,7 +76,10 @@ impl TryFrom<u8> for Kind {
     }
 }
 
+// A kind's word.
 impl fmt::Display for Kind {
+    ghost output = { λ kind. Some (kind_word kind) };
+
     fn fmt<W: fmt::Write>(&self, f: &mut fmt::Formatter<W>) -> fmt::Result {
         f.write_str(match self {
             Kind::Request => "REQUEST",

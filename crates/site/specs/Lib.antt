@@ -10,3 +10,4 @@ pub mod Life
 pub mod OneBook
 pub mod LifeExample
 pub mod Rows
+pub mod Words

@@ -78,6 +78,11 @@ pub enum Stage {
 }
 
 impl fmt::Display for Stage {
+    ghost use Rattle.site.specs.Words.{stage_word};
+    ghost use Rattle.std.specs.Prelude.{Some};
+
+    ghost output = { λ stage. Some (stage_word stage) };
+
     fn fmt<W: fmt::Write>(&self, f: &mut fmt::Formatter<W>) -> fmt::Result {
         f.write_str(match self {
             Stage::Open => "OPEN",
