@@ -1,35 +1,22 @@
-// A file of keys: 32 lines of 64 hexadecimal digits, the sites' 16 keys and then the clients' 16.
-use crate::hex::from_hex;
+//! A file of keys: 32 lines of 64 hexadecimal digits, the sites' 16 keys and then the clients' 16.
+use crate::complaint::{Complaint, exactly};
 use notary::{Key, KeyedNotary, MEMBERS};
-use std::alloc::{AllocError, Global};
+use std::alloc::Global;
 
-// The notary that knows the keys of a text, or none where the text is no such file.
-pub fn read_keys(heap: Global, text: &str) -> Result<Option<KeyedNotary>, AllocError> {
-    let mut sites = [[0u8; 32]; MEMBERS];
-    let mut clients = [[0u8; 32]; MEMBERS];
-    let mut read = 0usize;
+/// The notary that knows the keys of a text.
+pub fn read_keys(heap: Global, text: &str) -> Result<KeyedNotary, Complaint> {
+    let mut keys: Vec<Key> = Vec::new(heap);
     for line in text.lines() {
-        let Some(key) = read_key(heap, line)? else {
-            return Ok(None);
-        };
-        if read < MEMBERS {
-            sites[read] = key;
-        } else if read < 2 * MEMBERS {
-            clients[read - MEMBERS] = key;
-        } else {
-            return Ok(None);
-        }
-        read += 1;
+        keys.push(exactly(heap, line, Complaint::NoKeys)?)?;
     }
-    if read != 2 * MEMBERS {
-        return Ok(None);
-    }
-    Ok(Some(KeyedNotary::new(&sites, &clients)))
-}
-
-fn read_key(heap: Global, line: &str) -> Result<Option<Key>, AllocError> {
-    let Some(bytes) = from_hex(heap, line)? else {
-        return Ok(None);
+    let Some((sites, clients)) = keys.as_slice().split_at_checked(MEMBERS) else {
+        return Err(Complaint::NoKeys);
     };
-    Ok(<[u8; 32]>::try_from(bytes.as_slice()).ok())
+    match (
+        <[Key; MEMBERS]>::try_from(sites),
+        <[Key; MEMBERS]>::try_from(clients),
+    ) {
+        (Ok(sites), Ok(clients)) => Ok(KeyedNotary::new(&sites, &clients)),
+        _ => Err(Complaint::NoKeys),
+    }
 }

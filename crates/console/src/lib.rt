@@ -1,19 +1,18 @@
-// The program's commands, as functions from text to text.
-//
-// `register` and its sibling programs only hand arguments, input and output through; what a line asks for,
-// what is done for it and what is answered is decided here. The answers come from the objects' own calls:
-// `Bench` says so by its contracts. The wording of a line is tested, not proved.
+//! The programs' commands, as functions from text to text, and the steps on an object alone.
+//!
+//! A program of the register hands its arguments, input and output through `program`; what a line asks for, what is
+//! done for it and what is answered is decided by a `Play`. The answers on an object alone come from the object's own
+//! calls: `Bench` says so by its contracts. The wording of a line is tested, not proved.
 #![tactic(auto)]
 
 pub mod bench;
-pub mod deed;
+pub mod complaint;
 pub mod explain;
-pub mod hex;
 pub mod keys;
-pub mod meaning;
 pub mod play;
 pub mod program;
 pub mod seals;
+pub mod single;
 pub mod step;
 pub mod story;
 pub mod usage;

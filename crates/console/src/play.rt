@@ -1,131 +1,57 @@
-// Plays scripts: each line is a step on one copy of each object, and is answered by a line of text.
-use crate::bench::{Answered, Bench};
-use crate::deed::Deed;
-use crate::hex::push_hex;
-use crate::meaning::{BalanceShown, TitleShown, slot_write, title_write};
-use crate::step::{Kept, Step};
-use object::Object;
-use object::slots::Slots;
-use object::titles::Titles;
-use record::Statement;
+//! Plays scripts: each line is a command, and is answered by text.
+use crate::single::Singles;
 use std::alloc::{AllocError, Global};
+use text::line::Line;
+use text::trouble::Trouble;
+use text::words::{Kept, Unreadable};
 
-// The two objects that a script is played on.
-#[derive(Clone, Copy)]
-pub struct Player {
-    titles: Bench<Titles>,
-    slots: Bench<Slots>,
-    questions: u64,
+/// What plays a script.
+pub trait Play: Drop {
+    /// Does what a line asks for, whose first word is given, and adds the text that answers it.
+    fn command(&mut self, word: &str, line: &mut Line<'_>) -> Result<(), Trouble>;
 }
 
-// Ends a line with the record that asked for the step.
-fn end_with(out: &mut String, asked: &Statement) -> Result<(), AllocError> {
-    out.push_str("; record ")?;
-    push_hex(out, &asked.unsealed())?;
-    out.push('\n')
+/// The text that answers one line of a script, whose number in it is given. A line that asks for nothing is not
+/// answered.
+pub fn answer<P: Play>(
+    player: &mut P,
+    heap: Global,
+    number: u64,
+    text: &str,
+) -> Result<String, AllocError> {
+    let mut line = Line::new(heap, text);
+    let Some(word) = line.words.next() else {
+        return Ok(line.answer);
+    };
+    if word.starts_with('#') {
+        return Ok(line.answer);
+    }
+    match player.command(word, &mut line) {
+        Ok(()) => {}
+        Err(Trouble::NoMemory) => return Err(AllocError),
+        Err(why) => writeln!(line.answer, "line {number} {why}")?,
+    }
+    Ok(line.answer)
+}
+
+/// What plays scripts on objects alone.
+#[derive(Clone, Copy)]
+pub struct Player {
+    singles: Singles,
 }
 
 impl Player {
-    // Both objects fresh.
+    /// Both objects fresh.
     pub fn new() -> Player {
         Player {
-            titles: Bench::new(Titles::new()),
-            slots: Bench::new(Slots::new()),
-            questions: 0,
+            singles: Singles::new(),
         }
     }
+}
 
-    // Plays one line of a script, whose number in it is given, and adds the line of text that answers it. A
-    // line that asks for nothing is not answered.
-    pub fn line(
-        &mut self,
-        heap: Global,
-        number: u64,
-        text: &str,
-        out: &mut String,
-    ) -> Result<(), AllocError> {
-        match Step::read(text) {
-            Ok(None) => Ok(()),
-            Ok(Some(step)) => self.step(heap, step, out),
-            Err(why) => out.push_str(format!(in heap;
-                "line {number} cannot be read: {why}\n"
-            )?.as_str()),
-        }
-    }
-
-    fn step(&mut self, heap: Global, step: Step, out: &mut String) -> Result<(), AllocError> {
-        match step {
-            Step::Write { kept, client, deed } => self.write(heap, kept, client, &deed, out),
-            Step::Look { kept, client, deed } => self.look(heap, kept, client, &deed, out),
-            Step::TakeBack { kept } => self.take_back(kept, out),
-        }
-    }
-
-    fn write(
-        &mut self,
-        heap: Global,
-        kept: Kept,
-        client: u8,
-        deed: &Deed,
-        out: &mut String,
-    ) -> Result<(), AllocError> {
-        let operation = deed.operation();
-        let done = match kept {
-            Kept::Titles => self.titles.write(client, &operation),
-            Kept::Slots => self.slots.write(client, &operation),
-        };
-        let answer = done.answer;
-        let meaning = match kept {
-            Kept::Titles => title_write(answer),
-            Kept::Slots => slot_write(answer),
-        };
-        out.push_str(format!(in heap; "client {client} {deed}: {answer}, {meaning}")?.as_str())?;
-        end_with(out, &done.asked)
-    }
-
-    fn look(
-        &mut self,
-        heap: Global,
-        kept: Kept,
-        client: u8,
-        deed: &Deed,
-        out: &mut String,
-    ) -> Result<(), AllocError> {
-        let operation = deed.operation();
-        self.questions = self.questions.saturating_add(1);
-        let seen = match kept {
-            Kept::Titles => self.titles.look(client, &operation, self.questions),
-            Kept::Slots => self.slots.look(client, &operation, self.questions),
-        };
-        let answer = seen.answer;
-        let text = match kept {
-            Kept::Titles => {
-                let shown = TitleShown(answer);
-                format!(in heap; "client {client} {deed}: {answer}, {shown}")?
-            }
-            Kept::Slots => {
-                let shown = BalanceShown(answer);
-                format!(in heap; "client {client} {deed}: {answer}, {shown}")?
-            }
-        };
-        out.push_str(text.as_str())?;
-        end_with(out, &seen.asked)
-    }
-
-    fn take_back(&mut self, kept: Kept, out: &mut String) -> Result<(), AllocError> {
-        let taken = match kept {
-            Kept::Titles => self.titles.take_back(),
-            Kept::Slots => self.slots.take_back(),
-        };
-        let name = match kept {
-            Kept::Titles => "titles: ",
-            Kept::Slots => "slots: ",
-        };
-        out.push_str(name)?;
-        out.push_str(if taken {
-            "the last write is taken back\n"
-        } else {
-            "there is nothing to take back\n"
-        })
+impl Play for Player {
+    fn command(&mut self, word: &str, line: &mut Line<'_>) -> Result<(), Trouble> {
+        let kept = Kept::named(word).ok_or(Unreadable::NoStep)?;
+        self.singles.command(kept, line)
     }
 }

@@ -1,28 +1,83 @@
-// The program: arguments, files and standard streams, and nothing else.
+//! The program: arguments, files and standard streams, and nothing else.
 use crate::explain::{explain, explain_line, explain_with_keys};
-use crate::play::Player;
+use crate::play::{Play, answer};
 use crate::seals::{seal, vouch};
-use crate::story::story;
-use crate::usage::USAGE;
+use std::alloc::{AllocError, Global};
+use std::env::Args;
 use std::fs::File;
 use std::io::{BufRead, BufReader, Read};
 use std::{env, fs};
 
-// Plays each line as it comes.
-fn play<R: Read + Drop>(rt: &HostRuntime, input: R) -> anyhow::Result<()> {
+/// What the arguments ask for.
+#[derive(Drop)]
+enum Command {
+    /// the built-in story
+    Story,
+    /// the lines of a file, or of standard input
+    Play(Option<String>),
+    Seal {
+        key: String,
+        record: String,
+    },
+    Vouch {
+        key: String,
+        record: String,
+    },
+    /// a message, with a file of keys or none
+    Explain {
+        f: String,
+        message: String,
+        keys: Option<String>,
+    },
+    /// the messages on standard input
+    ExplainInput,
+    Help,
+}
+
+impl Command {
+    /// The arguments behind the program's name.
+    fn read(mut args: Args) -> Command {
+        let Some(command) = args.next() else {
+            return Command::Story;
+        };
+        match (command.as_str(), args.next(), args.next()) {
+            ("play", file, None) => Command::Play(file),
+            ("seal", Some(key), Some(record)) => Command::Seal { key, record },
+            ("vouch", Some(key), Some(record)) => Command::Vouch { key, record },
+            ("explain", None, None) => Command::ExplainInput,
+            ("explain", Some(f), Some(message)) => Command::Explain {
+                f,
+                message,
+                keys: args.next(),
+            },
+            _ => Command::Help,
+        }
+    }
+}
+
+/// Plays each line as it comes.
+fn play<P: Play, R: Read + Drop>(rt: &HostRuntime, mut player: P, input: R) -> anyhow::Result<()> {
     let heap = rt.alloc();
-    let mut player = Player::new();
-    let mut number = 0u64;
-    for line in BufReader::new(heap, input)?.lines(heap) {
-        number = number.saturating_add(1);
-        let mut out = String::new(heap);
-        player.line(heap, number, line?.as_str(), &mut out)?;
-        rt.print(out)?;
+    let lines = BufReader::new(heap, input)?.lines(heap);
+    for (number, line) in (1..=u64::MAX).zip(lines) {
+        rt.print(answer(&mut player, heap, number, line?.as_str())?)?;
     }
     Ok(())
 }
 
-// What a message is; seals are judged where a key file is given.
+/// Plays the built-in story. Its comments are printed too.
+fn story_played<P: Play>(heap: Global, mut player: P, story: &str) -> Result<String, AllocError> {
+    let mut out = String::new(heap);
+    for (number, line) in (1..=u64::MAX).zip(story.lines()) {
+        if line.starts_with('#') {
+            writeln!(out, "{line}")?;
+        }
+        out.push_str(answer(&mut player, heap, number, line)?.as_str())?;
+    }
+    Ok(out)
+}
+
+/// What a message is; seals are judged where a key file is given.
 fn explained(
     rt: &HostRuntime,
     f: &str,
@@ -38,53 +93,31 @@ fn explained(
     }
 }
 
-// Explains each line of standard input: the pool's f, and the message.
+/// Explains each line of standard input: the pool's f, and the message.
 fn explain_input(rt: &HostRuntime) -> anyhow::Result<()> {
     let heap = rt.alloc();
     for line in BufReader::new(heap, rt.stdin())?.lines(heap) {
-        let line = line?;
-        rt.print(explain_line(heap, line.as_str())?)?;
+        rt.print(explain_line(heap, line?.as_str())?)?;
     }
     Ok(())
 }
 
-// A command over two words, and a third one that may be left out.
-fn over_words(
-    rt: &HostRuntime,
-    command: &str,
-    a: &str,
-    b: &str,
-    c: Option<String>,
-) -> anyhow::Result<()> {
-    let text = match command {
-        "seal" => seal(rt.alloc(), a, b)?,
-        "vouch" => vouch(rt.alloc(), a, b)?,
-        "explain" => explained(rt, a, b, c)?,
-        _ => String::from_str(rt.alloc(), USAGE)?,
-    };
-    rt.print(text)?;
-    Ok(())
-}
-
-// Does what the arguments ask for.
-pub fn run(rt: &HostRuntime) -> anyhow::Result<()> {
+/// Does what the arguments ask for, with what plays lines, the built-in story and the help of a program.
+pub fn run<P: Play>(rt: &HostRuntime, player: P, story: &str, usage: &str) -> anyhow::Result<()> {
     let mut args = env::args(rt)?;
     let _ = args.next();
-    let Some(command) = args.next() else {
-        rt.print(story(rt.alloc())?)?;
-        return Ok(());
-    };
-    match (args.next(), args.next()) {
-        (None, _) if command.as_str() == "play" => play(rt, rt.stdin()),
-        (None, _) if command.as_str() == "explain" => explain_input(rt),
-        (Some(path), None) if command.as_str() == "play" => play(
-            rt,
-            File::open(rt, path.as_str())?,
-        ),
-        (Some(a), Some(b)) => over_words(rt, command.as_str(), a.as_str(), b.as_str(), args.next()),
-        _ => {
-            rt.print(USAGE)?;
-            Ok(())
+    let heap = rt.alloc();
+    match Command::read(args) {
+        Command::Story => rt.print(story_played(heap, player, story)?)?,
+        Command::Play(None) => play(rt, player, rt.stdin())?,
+        Command::Play(Some(path)) => play(rt, player, File::open(rt, path.as_str())?)?,
+        Command::Seal { key, record } => rt.print(seal(heap, key.as_str(), record.as_str())?)?,
+        Command::Vouch { key, record } => rt.print(vouch(heap, key.as_str(), record.as_str())?)?,
+        Command::Explain { f, message, keys } => {
+            rt.print(explained(rt, f.as_str(), message.as_str(), keys)?)?
         }
+        Command::ExplainInput => explain_input(rt)?,
+        Command::Help => rt.print(usage)?,
     }
+    Ok(())
 }

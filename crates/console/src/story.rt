@@ -1,8 +1,6 @@
-// The built-in story: the life of one bill, and of the slots that go with it.
-use crate::play::Player;
-use std::alloc::{AllocError, Global};
+//! The built-in story: the life of one bill, and of the slots that go with it.
 
-// A script like any other. Its comments are printed too.
+/// A script like any other. Its comments are printed too.
 pub const STORY: &str = "# Client 0 is the carrier, 1 the shipper, 2 the bank and 3 the consignee.
 # The carrier issues bill 5 to the shipper, and gives it the slots for the cargo.
 titles 0 issue 5 1
@@ -30,18 +28,3 @@ titles 3 surrender 5
 titles 3 transfer 5 1
 titles 0 look 5
 ";
-
-// Plays the story.
-pub fn story(heap: Global) -> Result<String, AllocError> {
-    let mut player = Player::new();
-    let mut out = String::new(heap);
-    for line in STORY.lines() {
-        if line.starts_with('#') {
-            out.push_str(line)?;
-            out.push('\n')?;
-        } else {
-            player.line(heap, 0, line, &mut out)?;
-        }
-    }
-    Ok(out)
-}

@@ -1,4 +1,4 @@
-// What the program prints where it does not know a command.
+//! What the program prints where it does not know a command.
 
 pub const USAGE: &str = "usage: register [COMMAND]
 

@@ -1,40 +1,30 @@
 //! What the calls of an office gave, as text.
 use message::Refusal;
-use message::limits::LEAST_ROOM;
-use notary::KeyedNotary;
 use office::{Judged, Verdict};
-use scenario::commands::push_refusal;
-use scenario::shown::push_records;
-use std::alloc::{AllocError, Global};
-use text::hex::push_hex;
+use scenario::shown::RefusalShown;
+use std::fmt;
+use text::hex::Hex;
 
-/// Adds the record that the office wrote, with its seal filled in, or why it was refused.
-pub fn push_own(
-    heap: Global,
-    out: &mut String,
-    notary: &KeyedNotary,
-    output: &[u8; LEAST_ROOM],
-    res: &Result<usize, Refusal>,
-) -> Result<(), AllocError> {
-    match res {
-        Ok(count) => {
-            out.push_str("ok ")?;
-            push_records(out, notary, None, &output[0..(*count).min(LEAST_ROOM)])?;
-            out.push('\n')
+/// What a call gave, or why it was refused.
+#[derive(Clone, Copy)]
+pub struct Given<T>(pub Result<T, Refusal>);
+
+impl<T: fmt::Display> fmt::Display for Given<T> {
+    fn fmt<W: fmt::Write>(&self, f: &mut fmt::Formatter<W>) -> fmt::Result {
+        match &self.0 {
+            Ok(value) => write!(f, "{value}"),
+            Err(refusal) => write!(f, "{}", RefusalShown(*refusal)),
         }
-        Err(refusal) => push_refusal(heap, out, refusal),
     }
 }
 
-/// Adds that a call that gives nothing was accepted, or why it was refused.
-pub fn push_accepted(
-    heap: Global,
-    out: &mut String,
-    refusal: Option<Refusal>,
-) -> Result<(), AllocError> {
-    match refusal {
-        None => out.push_str("ok\n"),
-        Some(refusal) => push_refusal(heap, out, &refusal),
+/// That a call was accepted, and what it gave.
+#[derive(Clone, Copy)]
+pub struct Accepted<T>(pub T);
+
+impl<T: fmt::Display> fmt::Display for Accepted<T> {
+    fn fmt<W: fmt::Write>(&self, f: &mut fmt::Formatter<W>) -> fmt::Result {
+        write!(f, "ok {}", &self.0)
     }
 }
 
@@ -50,47 +40,21 @@ pub fn verdict_name(verdict: &Verdict) -> &'static str {
     }
 }
 
-/// Adds a verdict with what it gives: an answer, a site, or the records that go with it.
-fn push_verdict(
-    heap: Global,
-    out: &mut String,
-    output: &[u8; LEAST_ROOM],
-    judged: &Judged,
-) -> Result<(), AllocError> {
-    out.push_str(verdict_name(&judged.verdict))?;
-    match judged.verdict {
-        Verdict::Done { answer } => out.push_str(format!(in heap; " {answer}")?.as_str())?,
-        Verdict::Catch { site } => out.push_str(format!(in heap; " {site}")?.as_str())?,
-        Verdict::Wait => {}
-        _ => {
-            out.push(' ')?;
-            push_hex(out, &output[0..judged.count.min(LEAST_ROOM)])?;
+/// A verdict with what it gives: an answer, a site, or the records that go with it.
+#[derive(Clone, Copy)]
+pub struct JudgedShown<'a> {
+    pub judged: Judged,
+    pub written: &'a [u8],
+}
+
+impl fmt::Display for JudgedShown<'_> {
+    fn fmt<W: fmt::Write>(&self, f: &mut fmt::Formatter<W>) -> fmt::Result {
+        let name = verdict_name(&self.judged.verdict);
+        match self.judged.verdict {
+            Verdict::Done { answer } => write!(f, "{name} {answer}"),
+            Verdict::Catch { site } => write!(f, "{name} {site}"),
+            Verdict::Wait => f.write_str(name),
+            _ => write!(f, "{name} {}", Hex(self.written)),
         }
-    }
-    out.push('\n')
-}
-
-/// Adds what JUDGE gave.
-pub fn push_judged(
-    heap: Global,
-    out: &mut String,
-    output: &[u8; LEAST_ROOM],
-    res: &Result<Judged, Refusal>,
-) -> Result<(), AllocError> {
-    match res {
-        Ok(judged) => push_verdict(heap, out, output, judged),
-        Err(refusal) => push_refusal(heap, out, refusal),
-    }
-}
-
-/// Adds what CLOSE gave.
-pub fn push_answer(
-    heap: Global,
-    out: &mut String,
-    res: &Result<u64, Refusal>,
-) -> Result<(), AllocError> {
-    match res {
-        Ok(answer) => out.push_str(format!(in heap; "ok {answer}\n")?.as_str()),
-        Err(refusal) => push_refusal(heap, out, refusal),
     }
 }

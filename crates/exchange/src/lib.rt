@@ -5,7 +5,9 @@
 //! what an exchange prints is tested, not proved.
 #![tactic(auto)]
 
+mod buffers;
 pub mod calls;
+pub mod conduct;
 pub mod network;
 pub mod people;
 pub mod reading;
@@ -14,4 +16,5 @@ pub mod replies;
 pub mod rounds;
 pub mod seat;
 pub mod seats;
+mod turn;
 pub mod writing;

@@ -1,220 +1,182 @@
 //! The commands for people: whole exchanges, sites that come and go, and whether all sites agree.
-use crate::network::SITES;
+use crate::conduct::{Honesty, Reach};
 use crate::rehearsal::Rehearsal;
-use record::Operation;
+use record::{Claim, Operation};
 use scenario::states::stage_name;
-use scenario::trouble::Trouble;
 use site::state::State;
-use std::alloc::{AllocError, Global};
-use std::str::SplitWhitespace;
-use text::hex::{from_hex, push_hex};
-use text::words::{Unreadable, client, deed, end, site};
+use std::fmt;
+use text::deed::Deed;
+use text::hex::{Hex, from_hex};
+use text::line::Line;
+use text::trouble::Trouble;
+use text::words::{Unreadable, Words};
+
+/// The claim of the write that a site has done last, if it has done one.
+fn last_claim(state: &State) -> Option<Claim> {
+    state.ledger.current.map(|current| current.claim)
+}
 
 /// Whether two sites have done the same writes, as far as their states tell.
 fn same_book(a: &State, b: &State) -> bool {
-    if a.ledger.place != b.ledger.place {
-        return false;
-    }
-    match (&a.ledger.current, &b.ledger.current) {
-        (Some(a), Some(b)) => a.claim == b.claim,
-        (None, None) => true,
-        _ => false,
+    a.ledger.place == b.ledger.place && last_claim(a) == last_claim(b)
+}
+
+/// What a client wants done: an operation in words, or its sixteen bytes.
+#[derive(Clone, Copy)]
+enum Wish {
+    Deed(Deed),
+    Bytes(Operation),
+}
+
+impl Wish {
+    /// The sixteen bytes that the object is given.
+    fn operation(&self) -> Operation {
+        match self {
+            Wish::Deed(deed) => deed.operation(),
+            Wish::Bytes(operation) => *operation,
+        }
     }
 }
 
-/// An operation as sixteen bytes in hexadecimal, if a word is one.
-fn in_hex(heap: Global, word: &str) -> Result<Option<Operation>, AllocError> {
-    match from_hex(heap, word)? {
-        Some(bytes) => Ok(<[u8; 16]>::try_from(bytes.as_slice()).ok()),
-        None => Ok(None),
+impl fmt::Display for Wish {
+    fn fmt<W: fmt::Write>(&self, f: &mut fmt::Formatter<W>) -> fmt::Result {
+        match self {
+            Wish::Deed(deed) => write!(f, "{deed}"),
+            Wish::Bytes(operation) => write!(f, "{}", Hex(operation)),
+        }
     }
+}
+
+/// Who wants an operation done.
+#[derive(Clone, Copy)]
+struct Asked {
+    client: u8,
+    operation: Operation,
 }
 
 impl Rehearsal {
-    /// An operation in words or in hexadecimal, with the text that names it.
-    fn operation(
-        &self,
-        heap: Global,
-        words: &mut SplitWhitespace<'_>,
-        named: &mut String,
-    ) -> Result<Operation, Trouble> {
-        let Some(pool) = &self.scenario.pool else {
-            return Err(Trouble::NoPool);
-        };
-        let Some(word) = words.next() else {
-            return Err(Trouble::Unread(Unreadable::NoDeed));
-        };
-        if let Some(operation) = in_hex(heap, word)? {
-            push_hex(named, &operation)?;
-            return Ok(operation);
-        }
-        let deed = deed(pool.kept(), word, words)?;
-        named.push_str(format!(in heap; "{deed}")?.as_str())?;
-        Ok(deed.operation())
-    }
-
-    /// The office of a client, made where there is none yet.
-    fn seated(&mut self, client: u8) {
-        if let Some(pool) = &self.scenario.pool {
-            if !self.seats.has(client) {
-                self.seats
-                    .make(pool.faulty(), client, &self.scenario.notary, 0);
-            }
+    /// An operation in words or in hexadecimal.
+    fn wish(&self, line: &mut Line<'_>) -> Result<Wish, Trouble> {
+        let kept = self.scenario.pool()?.kept();
+        let word = line.words.next().ok_or(Unreadable::NoDeed)?;
+        let bytes = from_hex(line.heap, word)?;
+        match bytes.and_then(|bytes| <[u8; 16]>::try_from(bytes.as_slice()).ok()) {
+            Some(operation) => Ok(Wish::Bytes(operation)),
+            None => Ok(Wish::Deed(line.words.deed(kept, word)?)),
         }
     }
 
-    /// `write C OPERATION` and `read C OPERATION`.
-    pub(crate) fn exchange(
-        &mut self,
-        heap: Global,
-        writes: bool,
-        words: &mut SplitWhitespace<'_>,
-        out: &mut String,
-    ) -> Result<(), Trouble> {
-        let who = client(words)?;
-        let mut named = String::new(heap);
-        let operation = self.operation(heap, words, &mut named)?;
-        end(words)?;
-        self.seated(who);
-        out.push_str(format!(in heap; "client {who} {named}\n")?.as_str())?;
-        if writes {
-            self.write_through(heap, who, &operation, out)
-        } else {
-            self.read_through(heap, who, &operation, out)
+    /// Makes the office of a client where there is none yet.
+    fn make_seat(&mut self, client: u8) -> Result<(), Trouble> {
+        if !self.seats.has(client) {
+            let f = self.scenario.pool()?.faulty();
+            self.seats.make(f, client, &self.scenario.notary, 0);
         }
+        Ok(())
+    }
+
+    /// Who wants what, with the line that says so; the client then has an office.
+    fn asked(&mut self, line: &mut Line<'_>) -> Result<Asked, Trouble> {
+        let client = line.words.client()?;
+        let wish = self.wish(line)?;
+        line.words.end()?;
+        self.make_seat(client)?;
+        writeln!(line.answer, "client {client} {wish}")?;
+        Ok(Asked {
+            client,
+            operation: wish.operation(),
+        })
+    }
+
+    /// `write C OPERATION`.
+    pub(crate) fn write(&mut self, line: &mut Line<'_>) -> Result<(), Trouble> {
+        let asked = self.asked(line)?;
+        self.write_through(asked.client, &asked.operation, line)
+    }
+
+    /// `read C OPERATION`.
+    pub(crate) fn read(&mut self, line: &mut Line<'_>) -> Result<(), Trouble> {
+        let asked = self.asked(line)?;
+        self.read_through(asked.client, &asked.operation, line)
     }
 
     /// `again C`: goes on with the open write.
-    pub(crate) fn again(
-        &mut self,
-        heap: Global,
-        words: &mut SplitWhitespace<'_>,
-        out: &mut String,
-    ) -> Result<(), Trouble> {
-        let who = client(words)?;
-        end(words)?;
-        if !self.seats.has(who) {
-            return Err(Trouble::NoOffice);
-        }
-        let Some(write) = self.seats.open_write(who) else {
-            return Err(Trouble::NoWrite);
-        };
-        let number = write.number;
-        out.push_str(format!(in heap; "client {who} goes on with request {number}\n")?.as_str())?;
-        self.go_on(heap, who, out)
+    pub(crate) fn again(&mut self, line: &mut Line<'_>) -> Result<(), Trouble> {
+        let client = line.words.client()?;
+        line.words.end()?;
+        let write = self.seats.office(client)?.desk().write;
+        let number = write.ok_or(Trouble::NoWrite)?.number;
+        writeln!(line.answer, "client {client} goes on with request {number}")?;
+        self.go_on(client, line)
     }
 
-    /// A site of the pool.
-    fn known_site(&self, words: &mut SplitWhitespace<'_>) -> Result<u8, Trouble> {
-        let at = site(words)?;
-        end(words)?;
-        if self.count() == 0 {
-            return Err(Trouble::NoPool);
-        }
-        if at >= self.count() {
+    /// A site of the pool, and no word more.
+    fn known_site(&self, words: &mut Words<'_>) -> Result<u8, Trouble> {
+        let site = words.site()?;
+        words.end()?;
+        self.scenario.pool()?;
+        if site >= self.count() {
             return Err(Trouble::NoSite);
         }
-        Ok(at)
+        Ok(site)
     }
 
     /// `down SITE` and `up SITE`: a site can no longer be reached, or can be reached again.
-    pub(crate) fn reach(
-        &mut self,
-        heap: Global,
-        down: bool,
-        words: &mut SplitWhitespace<'_>,
-        out: &mut String,
-    ) -> Result<(), Trouble> {
-        let at = self.known_site(words)?;
-        if usize::from(at) < SITES {
-            self.down[usize::from(at)] = down;
+    pub(crate) fn set_reach(&mut self, reach: Reach, line: &mut Line<'_>) -> Result<(), Trouble> {
+        let site = self.known_site(&mut line.words)?;
+        if let Some(conduct) = self.sites.get_mut(usize::from(site)) {
+            conduct.reach = reach;
         }
-        if down {
-            out.push_str(format!(in heap; "site {at} is down\n")?.as_str())?;
-        } else {
-            out.push_str(format!(in heap; "site {at} is up\n")?.as_str())?;
-        }
+        writeln!(line.answer, "site {site} {reach}")?;
         Ok(())
     }
 
     /// `lie SITE` and `honest SITE`: a site grants whatever it is asked, or does as the rules say.
-    pub(crate) fn trust(
+    pub(crate) fn set_honesty(
         &mut self,
-        heap: Global,
-        lies: bool,
-        words: &mut SplitWhitespace<'_>,
-        out: &mut String,
+        honesty: Honesty,
+        line: &mut Line<'_>,
     ) -> Result<(), Trouble> {
-        let at = self.known_site(words)?;
-        if usize::from(at) < SITES {
-            self.lying[usize::from(at)] = lies;
+        let site = self.known_site(&mut line.words)?;
+        if let Some(conduct) = self.sites.get_mut(usize::from(site)) {
+            conduct.honesty = honesty;
         }
-        if lies {
-            out.push_str(format!(in heap;
-                "site {at} lies: it grants whatever it is asked\n"
-            )?.as_str())?;
-        } else {
-            out.push_str(format!(in heap; "site {at} is honest\n")?.as_str())?;
-        }
+        writeln!(line.answer, "site {site} {honesty}")?;
         Ok(())
     }
 
     /// `resend SITE`: hands a site the certificates and ROUNDs that it missed.
-    pub(crate) fn resend(
-        &mut self,
-        heap: Global,
-        words: &mut SplitWhitespace<'_>,
-        out: &mut String,
-    ) -> Result<(), Trouble> {
-        let at = self.known_site(words)?;
-        out.push_str(format!(in heap; "site {at} is handed what the others were\n")?.as_str())?;
-        self.resend_to(heap, at, out)
-    }
-
-    /// Adds the line of a site's stage, round and place.
-    fn push_stand(
-        &self,
-        heap: Global,
-        at: u8,
-        state: &State,
-        out: &mut String,
-    ) -> Result<(), Trouble> {
-        let stage = stage_name(&state.stage);
-        let round = state.round;
-        let place = state.ledger.place;
-        out.push_str(format!(in heap;
-            "  site {at}: {stage}, round {round}, place {place}\n"
-        )?.as_str())?;
-        Ok(())
+    pub(crate) fn resend(&mut self, line: &mut Line<'_>) -> Result<(), Trouble> {
+        let site = self.known_site(&mut line.words)?;
+        writeln!(line.answer, "site {site} is handed what the others were")?;
+        self.resend_to(site, line)
     }
 
     /// `compare`: where each site stands, and whether all agree.
-    pub(crate) fn compare(
-        &mut self,
-        heap: Global,
-        words: &mut SplitWhitespace<'_>,
-        out: &mut String,
-    ) -> Result<(), Trouble> {
-        end(words)?;
-        let Some(pool) = &self.scenario.pool else {
-            return Err(Trouble::NoPool);
-        };
-        let Some(first) = pool.state(0) else {
-            return Err(Trouble::NoPool);
-        };
-        out.push_str("the sites stand\n")?;
+    pub(crate) fn compare(&mut self, line: &mut Line<'_>) -> Result<(), Trouble> {
+        line.words.end()?;
+        let pool = self.scenario.pool()?;
+        let first = pool.state(0).ok_or(Trouble::NoPool)?;
+        writeln!(line.answer, "the sites stand")?;
         let mut agree = true;
-        for at in 0..self.count() {
-            if let Some(state) = pool.state(at) {
-                self.push_stand(heap, at, &state, out)?;
+        for site in 0..self.count() {
+            if let Some(state) = pool.state(site) {
+                let stage = stage_name(&state.stage);
+                let round = state.round;
+                let place = state.ledger.place;
+                writeln!(
+                    line.answer,
+                    "  site {site}: {stage}, round {round}, place {place}"
+                )?;
                 agree = agree && same_book(&first, &state);
             }
         }
-        out.push_str(if agree {
-            "  all sites agree\n"
+        let said = if agree {
+            "all sites agree"
         } else {
-            "  the sites do not agree\n"
-        })?;
+            "the sites do not agree"
+        };
+        writeln!(line.answer, "  {said}")?;
         Ok(())
     }
 }

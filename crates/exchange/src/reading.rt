@@ -1,15 +1,16 @@
 //! A whole reading, and bringing late sites up by what the others were handed.
+use crate::buffers::Buffers;
 use crate::calls::verdict_name;
 use crate::rehearsal::Rehearsal;
-use message::limits::{BOARD, LEAST_ROOM};
+use crate::turn::Turn;
 use office::Verdict;
 use pool::Entry;
 use record::limits::RECORD;
 use record::{Kind, Operation, Statement};
-use scenario::trouble::Trouble;
 use std::alloc::Global;
-use text::meaning::{BalanceShown, TitleShown};
-use text::words::Kept;
+use text::line::Line;
+use text::meaning::LookAnswer;
+use text::trouble::Trouble;
 
 /// How often an office asks again before it leaves the question.
 const TURNS: u8 = 3;
@@ -17,134 +18,98 @@ const TURNS: u8 = 3;
 /// Whether a call handed its site a certificate or a ROUND, and the site accepted it.
 fn moves(entry: &Entry, q: usize) -> bool {
     let message = entry.message.as_slice();
-    let kind = match message.first() {
-        Some(kind) => *kind,
-        None => 0,
-    };
-    let round = kind == Kind::Start.number();
-    let certificate = kind == Kind::Grant.number() && message.len() / RECORD == q;
-    entry.result.is_ok() && (round || certificate)
+    entry.result.is_ok()
+        && match message.first().and_then(|kind| Kind::of(*kind)) {
+            Some(Kind::Start) => true,
+            Some(Kind::Grant) => message.len() / RECORD == q,
+            _ => false,
+        }
 }
 
 impl Rehearsal {
-    /// Adds what an answer to a reading means.
-    fn push_shown(&self, heap: Global, answer: u64, out: &mut String) -> Result<(), Trouble> {
-        let Some(pool) = &self.scenario.pool else {
-            return Err(Trouble::NoPool);
-        };
-        match pool.kept() {
-            Kept::Titles => {
-                let shown = TitleShown(answer);
-                out.push_str(format!(in heap; "  answer {answer}, {shown}\n")?.as_str())?;
-            }
-            Kept::Slots => {
-                let shown = BalanceShown(answer);
-                out.push_str(format!(in heap; "  answer {answer}, {shown}\n")?.as_str())?;
-            }
-        }
-        Ok(())
-    }
-
-    /// One turn of a reading: asks with a new nonce, and judges. Says whether there is another turn.
+    /// One turn of a reading: asks with a new nonce, and judges.
     fn read_turn(
         &mut self,
-        heap: Global,
         client: u8,
         operation: &Operation,
-        out: &mut String,
-    ) -> Result<bool, Trouble> {
+        line: &mut Line<'_>,
+    ) -> Result<Turn, Trouble> {
         self.nonce = self.nonce.wrapping_add(1);
-        let mut output = [0; LEAST_ROOM];
-        let mut board = [0; BOARD];
-        let _ = self
-            .seats
-            .query(client, operation, self.nonce, &mut output, &mut board);
+        let mut buffers = Buffers::new();
+        let _ = self.seats.seat(client)?.query(
+            operation,
+            self.nonce,
+            &mut buffers.output,
+            &mut buffers.board,
+        );
         let asks = Statement::question(client, operation, self.nonce);
         let question = self.scenario.notary.seal(&asks.unsealed());
-        let replies = self.broadcast(heap, &question, out)?;
-        self.take_all(client, replies.as_slice());
-        let Some(Ok(found)) = self.seats.judge_reading(client, &output, &mut board) else {
+        let replies = self.broadcast(&question, line)?;
+        self.take_all(client, &replies)?;
+        let office = self.seats.office(client)?;
+        let Ok(found) = office.judge_reading(&buffers.output, &mut buffers.board) else {
             return Err(Trouble::NoOffice);
         };
-        out.push_str("  verdict ")?;
-        out.push_str(verdict_name(&found.verdict))?;
-        out.push('\n')?;
+        writeln!(line.answer, "  verdict {}", verdict_name(&found.verdict))?;
         match found.verdict {
             Verdict::Done { answer } => {
-                self.push_shown(heap, answer, out)?;
-                Ok(false)
+                let kept = self.scenario.pool()?.kept();
+                let means = LookAnswer { kept, answer };
+                writeln!(line.answer, "  answer {answer}, {means}")?;
+                Ok(Turn::Last)
             }
-            Verdict::Catch { site: _ } => {
-                self.resend_to_all(heap, out)?;
-                Ok(true)
+            Verdict::Catch { .. } => {
+                self.resend_to_all(line)?;
+                Ok(Turn::More)
             }
-            _ => Ok(false),
+            _ => Ok(Turn::Last),
         }
     }
 
     /// Reads through an office, until a quorum agrees or too few sites are reached.
     pub(crate) fn read_through(
         &mut self,
-        heap: Global,
         client: u8,
         operation: &Operation,
-        out: &mut String,
+        line: &mut Line<'_>,
     ) -> Result<(), Trouble> {
         for _ in 0..TURNS {
-            if !self.read_turn(heap, client, operation, out)? {
-                return Ok(());
+            if self.read_turn(client, operation, line)? == Turn::Last {
+                break;
             }
         }
         Ok(())
     }
 
-    /// The message of an accepted certificate or ROUND in the transcript, if that entry is one.
-    fn moved(&self, heap: Global, at: usize) -> Result<Option<Vec<u8>>, Trouble> {
-        let Some(pool) = &self.scenario.pool else {
-            return Err(Trouble::NoPool);
-        };
-        match pool.transcript().get(at) {
-            Some(entry) if moves(entry, self.quorum()) => Ok(Some(Vec::from_slice(
-                heap,
-                entry.message.as_slice(),
-            )?)),
-            _ => Ok(None),
+    /// The messages of the certificates and ROUNDs that some site accepted, the oldest first.
+    fn moved(&self, heap: Global) -> Result<Vec<Vec<u8>>, Trouble> {
+        let q = self.quorum();
+        let mut messages = Vec::new(heap);
+        for entry in self.scenario.pool()?.transcript() {
+            if moves(entry, q) {
+                messages.push(entry.message.clone()?)?;
+            }
         }
+        Ok(messages)
     }
 
     /// Hands a site every certificate and ROUND that some site accepted, the oldest first.
-    pub(crate) fn resend_to(
-        &mut self,
-        heap: Global,
-        site: u8,
-        out: &mut String,
-    ) -> Result<(), Trouble> {
-        let many = match &self.scenario.pool {
-            Some(pool) => pool.transcript().len(),
-            None => 0,
-        };
-        for at in 0..many {
-            if let Some(message) = self.moved(heap, at)? {
-                let _ = self.send(heap, site, message.as_slice())?;
-            }
+    pub(crate) fn resend_to(&mut self, site: u8, line: &mut Line<'_>) -> Result<(), Trouble> {
+        for message in self.moved(line.heap)? {
+            let _ = self.send(line.heap, site, message.as_slice())?;
         }
-        let place = match &self.scenario.pool {
-            Some(pool) => match pool.state(site) {
-                Some(state) => state.ledger.place,
-                None => 0,
-            },
+        let place = match self.scenario.pool()?.state(site) {
+            Some(state) => state.ledger.place,
             None => 0,
         };
-        out.push_str(format!(in heap; "  site {site} is brought up to place {place}\n")?.as_str())?;
+        writeln!(line.answer, "  site {site} is brought up to place {place}")?;
         Ok(())
     }
 
     /// Brings every site that can be reached up.
-    pub(crate) fn resend_to_all(&mut self, heap: Global, out: &mut String) -> Result<(), Trouble> {
-        for site in 0..self.count() {
-            if self.reachable(site) {
-                self.resend_to(heap, site, out)?;
-            }
+    pub(crate) fn resend_to_all(&mut self, line: &mut Line<'_>) -> Result<(), Trouble> {
+        for site in self.reached(line.heap)? {
+            self.resend_to(site, line)?;
         }
         Ok(())
     }

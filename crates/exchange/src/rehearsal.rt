@@ -1,277 +1,222 @@
 //! A rehearsal: a pool, its offices, and the commands that drive them.
-use crate::calls::{push_accepted, push_answer, push_judged, push_own};
-use crate::network::SITES;
+use crate::buffers::Buffers;
+use crate::calls::{Accepted, Given, JudgedShown};
+use crate::conduct::{Conduct, Honesty, Reach};
 use crate::seats::Seats;
-use message::limits::{BOARD, LEAST_ROOM};
+use message::Refusal;
+use office::Judged;
 use record::Operation;
 use scenario::commands::{Scenario, bytes};
-use scenario::trouble::Trouble;
+use scenario::shown::{RecordsShown, RefusalShown};
 use std::alloc::{AllocError, Global};
-use std::str::SplitWhitespace;
-use text::words::{Unreadable, client, end};
+use text::line::Line;
+use text::trouble::Trouble;
+use text::words::Unreadable;
+
+/// How many sites a pool has at most.
+const SITES: usize = 16;
 
 /// A pool, if one was started, and the offices that were made for it.
 #[derive(Drop)]
 pub struct Rehearsal {
     pub(crate) scenario: Scenario,
     pub(crate) seats: Seats,
-    /// the sites that cannot be reached
-    pub(crate) down: [bool; SITES],
-    /// the sites that lie
-    pub(crate) lying: [bool; SITES],
+    pub(crate) sites: [Conduct; SITES],
     /// the last nonce of a reading
     pub(crate) nonce: u64,
 }
 
 /// The next word as an operation, in hexadecimal.
-fn operation(heap: Global, words: &mut SplitWhitespace<'_>) -> Result<Operation, Trouble> {
-    match <[u8; 16]>::try_from(bytes(heap, words)?.as_slice()) {
+fn operation(line: &mut Line<'_>) -> Result<Operation, Trouble> {
+    match <[u8; 16]>::try_from(bytes(line)?.as_slice()) {
         Ok(operation) => Ok(operation),
         Err(_) => Err(Trouble::Unread(Unreadable::NoOperation)),
     }
 }
 
 /// The next word as a nonce, in hexadecimal.
-fn nonce(heap: Global, words: &mut SplitWhitespace<'_>) -> Result<u64, Trouble> {
-    match <[u8; 8]>::try_from(bytes(heap, words)?.as_slice()) {
+fn nonce(line: &mut Line<'_>) -> Result<u64, Trouble> {
+    match <[u8; 8]>::try_from(bytes(line)?.as_slice()) {
         Ok(nonce) => Ok(u64::from_be_bytes(nonce)),
         Err(_) => Err(Trouble::Unread(Unreadable::NoNonce)),
-    }
-}
-
-/// A number, where the line goes on; else 0.
-fn last_number(words: &mut SplitWhitespace<'_>) -> Result<u32, Unreadable> {
-    match words.next() {
-        None => Ok(0),
-        Some(word) => word.parse::<u32>().ok().ok_or(Unreadable::NoNumber),
     }
 }
 
 impl Rehearsal {
     /// With no pool and no office yet.
     pub fn new(heap: Global) -> Result<Rehearsal, AllocError> {
-        let scenario = Scenario::new();
-        let seats = Seats::new(heap, &scenario.notary)?;
         Ok(Rehearsal {
-            scenario,
-            seats,
-            down: [false; SITES],
-            lying: [false; SITES],
+            scenario: Scenario::new(),
+            seats: Seats::new(heap)?,
+            sites: [Conduct::SOUND; SITES],
             nonce: 0,
         })
     }
 
     /// `office C [LAST]`: makes an office, which goes on after its last number.
-    fn office(
-        &mut self,
-        heap: Global,
-        words: &mut SplitWhitespace<'_>,
-        out: &mut String,
+    fn office(&mut self, line: &mut Line<'_>) -> Result<(), Trouble> {
+        let client = line.words.client()?;
+        let last = line.words.number_or(0)?;
+        line.words.end()?;
+        let f = self.scenario.pool()?.faulty();
+        self.seats.make(f, client, &self.scenario.notary, last);
+        writeln!(line.answer, "office {client} ok")?;
+        Ok(())
+    }
+
+    /// Adds the records that an office wrote, with their seals filled in, or why it was refused.
+    fn push_own(
+        &self,
+        line: &mut Line<'_>,
+        buffers: &Buffers,
+        res: Result<usize, Refusal>,
     ) -> Result<(), Trouble> {
-        let who = client(words)?;
-        let last = last_number(words)?;
-        end(words)?;
-        let Some(pool) = &self.scenario.pool else {
-            return Err(Trouble::NoPool);
-        };
-        self.seats
-            .make(pool.faulty(), who, &self.scenario.notary, last);
-        out.push_str(format!(in heap; "office {who} ok\n")?.as_str())?;
+        match res {
+            Ok(count) => {
+                let records = RecordsShown {
+                    notary: &self.scenario.notary,
+                    site: None,
+                    bytes: buffers.written(count),
+                };
+                writeln!(line.answer, "ok {records}")?;
+            }
+            Err(refusal) => writeln!(line.answer, "{}", RefusalShown(refusal))?,
+        }
         Ok(())
     }
 
     /// `begin C OP`.
-    fn begin(
-        &mut self,
-        heap: Global,
-        words: &mut SplitWhitespace<'_>,
-        out: &mut String,
-    ) -> Result<(), Trouble> {
-        let who = client(words)?;
-        let operation = operation(heap, words)?;
-        end(words)?;
-        let mut output = [0; LEAST_ROOM];
-        let mut board = [0; BOARD];
-        let Some(result) = self.seats.begin(who, &operation, &mut output, &mut board) else {
-            return Err(Trouble::NoOffice);
-        };
-        out.push_str(format!(in heap; "begin {who} ")?.as_str())?;
-        push_own(heap, out, &self.scenario.notary, &output, &result)?;
-        Ok(())
+    fn begin(&mut self, line: &mut Line<'_>) -> Result<(), Trouble> {
+        let client = line.words.client()?;
+        let operation = operation(line)?;
+        line.words.end()?;
+        let mut buffers = Buffers::new();
+        let seat = self.seats.seat(client)?;
+        let result = seat.begin(&operation, &mut buffers.output, &mut buffers.board);
+        write!(line.answer, "begin {client} ")?;
+        self.push_own(line, &buffers, result)
     }
 
     /// `query C OP NONCE`.
-    fn query(
-        &mut self,
-        heap: Global,
-        words: &mut SplitWhitespace<'_>,
-        out: &mut String,
-    ) -> Result<(), Trouble> {
-        let who = client(words)?;
-        let operation = operation(heap, words)?;
-        let nonce = nonce(heap, words)?;
-        end(words)?;
-        let mut output = [0; LEAST_ROOM];
-        let mut board = [0; BOARD];
-        let Some(result) = self
-            .seats
-            .query(who, &operation, nonce, &mut output, &mut board)
-        else {
-            return Err(Trouble::NoOffice);
-        };
-        out.push_str(format!(in heap; "query {who} ")?.as_str())?;
-        push_own(heap, out, &self.scenario.notary, &output, &result)?;
-        Ok(())
+    fn query(&mut self, line: &mut Line<'_>) -> Result<(), Trouble> {
+        let client = line.words.client()?;
+        let operation = operation(line)?;
+        let nonce = nonce(line)?;
+        line.words.end()?;
+        let mut buffers = Buffers::new();
+        let seat = self.seats.seat(client)?;
+        let result = seat.query(&operation, nonce, &mut buffers.output, &mut buffers.board);
+        write!(line.answer, "query {client} ")?;
+        self.push_own(line, &buffers, result)
     }
 
     /// `take C HEX`.
-    fn take(
-        &mut self,
-        heap: Global,
-        words: &mut SplitWhitespace<'_>,
-        out: &mut String,
-    ) -> Result<(), Trouble> {
-        let who = client(words)?;
-        let message = bytes(heap, words)?;
-        end(words)?;
-        let mut board = [0; BOARD];
-        let Some(result) = self
-            .seats
-            .take(who, message.as_slice(), &[0; LEAST_ROOM], &mut board)
-        else {
-            return Err(Trouble::NoOffice);
-        };
-        out.push_str(format!(in heap; "take {who} ")?.as_str())?;
-        push_accepted(heap, out, result.err())?;
+    fn take(&mut self, line: &mut Line<'_>) -> Result<(), Trouble> {
+        let client = line.words.client()?;
+        let message = bytes(line)?;
+        line.words.end()?;
+        let mut buffers = Buffers::new();
+        let seat = self.seats.seat(client)?;
+        let result = seat.take(message.as_slice(), &buffers.output, &mut buffers.board);
+        let taken = Given(result.map(|_| "ok"));
+        writeln!(line.answer, "take {client} {taken}")?;
         Ok(())
     }
 
     /// `judge C`.
-    fn judge(
-        &self,
-        heap: Global,
-        words: &mut SplitWhitespace<'_>,
-        out: &mut String,
-    ) -> Result<(), Trouble> {
-        let who = client(words)?;
-        end(words)?;
-        let mut output = [0; LEAST_ROOM];
-        let mut board = [0; BOARD];
-        let Some(result) = self.seats.judge(who, &mut output, &mut board) else {
-            return Err(Trouble::NoOffice);
-        };
-        out.push_str(format!(in heap; "judge {who} ")?.as_str())?;
-        push_judged(heap, out, &output, &result)?;
+    fn judge(&self, line: &mut Line<'_>) -> Result<(), Trouble> {
+        let client = line.words.client()?;
+        line.words.end()?;
+        let mut buffers = Buffers::new();
+        let office = self.seats.office(client)?;
+        let result = office.judge(&mut buffers.output, &mut buffers.board);
+        writeln!(line.answer, "judge {client} {}", shown(&buffers, result))?;
         Ok(())
     }
 
     /// `judgeread C`.
-    fn judge_reading(
-        &self,
-        heap: Global,
-        words: &mut SplitWhitespace<'_>,
-        out: &mut String,
-    ) -> Result<(), Trouble> {
-        let who = client(words)?;
-        end(words)?;
-        let output = [0; LEAST_ROOM];
-        let mut board = [0; BOARD];
-        let Some(result) = self.seats.judge_reading(who, &output, &mut board) else {
-            return Err(Trouble::NoOffice);
-        };
-        out.push_str(format!(in heap; "judgeread {who} ")?.as_str())?;
-        push_judged(heap, out, &output, &result)?;
+    fn judge_reading(&self, line: &mut Line<'_>) -> Result<(), Trouble> {
+        let client = line.words.client()?;
+        line.words.end()?;
+        let mut buffers = Buffers::new();
+        let office = self.seats.office(client)?;
+        let result = office.judge_reading(&buffers.output, &mut buffers.board);
+        writeln!(
+            line.answer,
+            "judgeread {client} {}",
+            shown(&buffers, result)
+        )?;
         Ok(())
     }
 
     /// `close C`.
-    fn close(
-        &mut self,
-        heap: Global,
-        words: &mut SplitWhitespace<'_>,
-        out: &mut String,
-    ) -> Result<(), Trouble> {
-        let who = client(words)?;
-        end(words)?;
-        let Some(result) = self.seats.close(who) else {
-            return Err(Trouble::NoOffice);
-        };
-        out.push_str(format!(in heap; "close {who} ")?.as_str())?;
-        push_answer(heap, out, &result)?;
+    fn close(&mut self, line: &mut Line<'_>) -> Result<(), Trouble> {
+        let client = line.words.client()?;
+        line.words.end()?;
+        let closed = Given(
+            self.seats
+                .seat(client)?
+                .close()
+                .map(|answer| Accepted(answer)),
+        );
+        writeln!(line.answer, "close {client} {closed}")?;
         Ok(())
     }
 
     /// `giveup C`.
-    fn give_up(
-        &mut self,
-        heap: Global,
-        words: &mut SplitWhitespace<'_>,
-        out: &mut String,
-    ) -> Result<(), Trouble> {
-        let who = client(words)?;
-        end(words)?;
-        let Some(result) = self.seats.give_up(who) else {
-            return Err(Trouble::NoOffice);
-        };
-        out.push_str(format!(in heap; "giveup {who} ")?.as_str())?;
-        push_accepted(heap, out, result.err())?;
+    fn give_up(&mut self, line: &mut Line<'_>) -> Result<(), Trouble> {
+        let client = line.words.client()?;
+        line.words.end()?;
+        let given_up = Given(self.seats.seat(client)?.give_up().map(|_| "ok"));
+        writeln!(line.answer, "giveup {client} {given_up}")?;
         Ok(())
     }
 
     /// `pool F titles|slots`: another pool, with no office yet and every site up and honest.
-    fn restart(
-        &mut self,
-        heap: Global,
-        words: &mut SplitWhitespace<'_>,
-        out: &mut String,
-    ) -> Result<(), Trouble> {
+    fn restart(&mut self, line: &mut Line<'_>) -> Result<(), Trouble> {
         self.seats.forget();
-        self.down = [false; SITES];
-        self.lying = [false; SITES];
-        self.scenario.command(heap, "pool", words, out)
+        self.sites = [Conduct::SOUND; SITES];
+        self.scenario.restart(line)
     }
 
     /// The commands for people, and then those on single sites.
-    fn by_people(
-        &mut self,
-        heap: Global,
-        word: &str,
-        words: &mut SplitWhitespace<'_>,
-        out: &mut String,
-    ) -> Result<(), Trouble> {
+    fn by_people(&mut self, word: &str, line: &mut Line<'_>) -> Result<(), Trouble> {
         match word {
-            "write" => self.exchange(heap, true, words, out),
-            "read" => self.exchange(heap, false, words, out),
-            "again" => self.again(heap, words, out),
-            "down" => self.reach(heap, true, words, out),
-            "up" => self.reach(heap, false, words, out),
-            "lie" => self.trust(heap, true, words, out),
-            "honest" => self.trust(heap, false, words, out),
-            "resend" => self.resend(heap, words, out),
-            "compare" => self.compare(heap, words, out),
-            _ => self.scenario.command(heap, word, words, out),
+            "write" => self.write(line),
+            "read" => self.read(line),
+            "again" => self.again(line),
+            "down" => self.set_reach(Reach::Down, line),
+            "up" => self.set_reach(Reach::Up, line),
+            "lie" => self.set_honesty(Honesty::Lying, line),
+            "honest" => self.set_honesty(Honesty::Honest, line),
+            "resend" => self.resend(line),
+            "compare" => self.compare(line),
+            _ => self.scenario.command(word, line),
         }
     }
 
     /// Does what a line asks for, whose first word is given, and adds the text that answers it.
-    pub fn command(
-        &mut self,
-        heap: Global,
-        word: &str,
-        words: &mut SplitWhitespace<'_>,
-        out: &mut String,
-    ) -> Result<(), Trouble> {
+    pub fn command(&mut self, word: &str, line: &mut Line<'_>) -> Result<(), Trouble> {
+        // A match, since each word has a method of its own: a table of them would hold function pointers.
         match word {
-            "pool" => self.restart(heap, words, out),
-            "office" => self.office(heap, words, out),
-            "begin" => self.begin(heap, words, out),
-            "query" => self.query(heap, words, out),
-            "take" => self.take(heap, words, out),
-            "judge" => self.judge(heap, words, out),
-            "judgeread" => self.judge_reading(heap, words, out),
-            "close" => self.close(heap, words, out),
-            "giveup" => self.give_up(heap, words, out),
-            _ => self.by_people(heap, word, words, out),
+            "pool" => self.restart(line),
+            "office" => self.office(line),
+            "begin" => self.begin(line),
+            "query" => self.query(line),
+            "take" => self.take(line),
+            "judge" => self.judge(line),
+            "judgeread" => self.judge_reading(line),
+            "close" => self.close(line),
+            "giveup" => self.give_up(line),
+            _ => self.by_people(word, line),
         }
     }
+}
+
+/// What an office judged, with the records that go with it.
+fn shown(buffers: &Buffers, res: Result<Judged, Refusal>) -> Given<JudgedShown<'_>> {
+    Given(res.map(|judged| JudgedShown {
+        judged,
+        written: buffers.written(judged.count),
+    }))
 }

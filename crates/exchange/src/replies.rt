@@ -2,7 +2,7 @@
 use message::Refusal;
 use record::limits::{MARK, RECORD};
 use record::{Kind, Statement};
-use std::alloc::{AllocError, Global};
+use std::fmt;
 
 /// A site's reply: one record with its seal filled in, nothing, or a refusal.
 #[derive(Clone, Copy)]
@@ -12,60 +12,55 @@ pub enum Reply {
     Refused(Refusal),
 }
 
-/// Adds whose write a statement is about, and where.
-fn push_where(heap: Global, out: &mut String, says: &Statement) -> Result<(), AllocError> {
-    let client = says.client;
-    let number = says.number;
-    let round = says.round;
-    let place = says.place;
-    if client == MARK {
-        out.push_str(format!(in heap; "the mark of round {round}, place {place}\n")?.as_str())
-    } else {
-        out.push_str(format!(in heap;
-            "client {client}, request {number}, round {round}, place {place}\n"
-        )?.as_str())
+/// Whose write a statement is about, and where.
+#[derive(Clone, Copy)]
+struct Where<'a>(&'a Statement);
+
+impl fmt::Display for Where<'_> {
+    fn fmt<W: fmt::Write>(&self, f: &mut fmt::Formatter<W>) -> fmt::Result {
+        let client = self.0.client;
+        let number = self.0.number;
+        let round = self.0.round;
+        let place = self.0.place;
+        match client {
+            MARK => write!(f, "the mark of round {round}, place {place}"),
+            _ => write!(
+                f,
+                "client {client}, request {number}, round {round}, place {place}"
+            ),
+        }
     }
 }
 
-/// Adds what a statement of a site says.
-fn push_said(heap: Global, out: &mut String, says: &Statement) -> Result<(), AllocError> {
-    let round = says.round;
-    let place = says.place;
-    let answer = says.answer;
-    match Kind::of(says.kind) {
-        Some(Kind::Grant) => {
-            out.push_str("GRANT to ")?;
-            push_where(heap, out, says)
+/// What a statement of a site says.
+#[derive(Clone, Copy)]
+struct Said<'a>(&'a Statement);
+
+impl fmt::Display for Said<'_> {
+    fn fmt<W: fmt::Write>(&self, f: &mut fmt::Formatter<W>) -> fmt::Result {
+        let round = self.0.round;
+        let place = self.0.place;
+        let answer = self.0.answer;
+        let about = Where(self.0);
+        match Kind::of(self.0.kind) {
+            Some(Kind::Grant) => write!(f, "GRANT to {about}"),
+            Some(Kind::Answer) => write!(f, "ANSWER {answer} to {about}"),
+            Some(Kind::ReadAnswer) => write!(
+                f,
+                "READ-ANSWER {answer}, round {round}, place {place}"
+            ),
+            Some(Kind::Start) => write!(f, "START, round {round}, place {place}"),
+            _ => f.write_str("something else"),
         }
-        Some(Kind::Answer) => {
-            out.push_str(format!(in heap; "ANSWER {answer} to ")?.as_str())?;
-            push_where(heap, out, says)
-        }
-        Some(Kind::ReadAnswer) => out.push_str(format!(in heap;
-            "READ-ANSWER {answer}, round {round}, place {place}\n"
-        )?.as_str()),
-        Some(Kind::Start) => out.push_str(format!(in heap;
-            "START, round {round}, place {place}\n"
-        )?.as_str()),
-        _ => out.push_str("something else\n"),
     }
 }
 
-/// Adds a line with what a site replied.
-pub fn push_reply(
-    heap: Global,
-    out: &mut String,
-    site: u8,
-    reply: &Reply,
-) -> Result<(), AllocError> {
-    out.push_str(format!(in heap; "  site {site}: ")?.as_str())?;
-    match reply {
-        Reply::Says(raw) => push_said(heap, out, &Statement::read(raw)),
-        Reply::Silent => out.push_str("accepted\n"),
-        Reply::Refused(refusal) => {
-            out.push_str("refused, ")?;
-            out.push_str(refusal.name())?;
-            out.push('\n')
+impl fmt::Display for Reply {
+    fn fmt<W: fmt::Write>(&self, f: &mut fmt::Formatter<W>) -> fmt::Result {
+        match self {
+            Reply::Says(raw) => write!(f, "{}", Said(&Statement::read(raw))),
+            Reply::Silent => f.write_str("accepted"),
+            Reply::Refused(refusal) => write!(f, "refused, {}", refusal.name()),
         }
     }
 }

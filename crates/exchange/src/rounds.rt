@@ -1,13 +1,14 @@
 //! Settling a clash: the sites stop, the ordering service makes the round, and its settlement is done.
+use crate::network::Replies;
 use crate::rehearsal::Rehearsal;
 use crate::replies::Reply;
-use message::limits::{BOARD, LEAST_ROOM};
 use record::limits::RECORD;
 use record::{Kind, Place, Statement};
-use scenario::calls::call;
-use scenario::trouble::Trouble;
+use scenario::calls::{Lengths, call};
 use site::state::Stage;
-use std::alloc::Global;
+use std::alloc::{AllocError, Global};
+use text::line::Line;
+use text::trouble::Trouble;
 
 /// The most places of a settlement: the mark, and a request of each client.
 const SETTLED: u32 = 17;
@@ -15,103 +16,95 @@ const SETTLED: u32 = 17;
 /// The records of one kind among replies, as far as a quorum of them.
 fn quorum_of(
     heap: Global,
-    replies: &[[u8; RECORD]],
+    replies: &Replies,
     kind: Kind,
     q: usize,
-) -> Result<Option<Vec<u8>>, Trouble> {
+) -> Result<Option<Vec<u8>>, AllocError> {
     let mut message = Vec::new(heap);
-    let mut found = 0usize;
-    for raw in replies {
-        if found < q && Statement::read(raw).kind == kind.number() {
-            message.extend_from_slice(raw)?;
-            found = found.saturating_add(1);
-        }
+    let alike = replies
+        .iter()
+        .filter(|raw| Statement::read(*raw).kind == kind.number());
+    for raw in alike.take(q) {
+        message.extend_from_slice(raw)?;
     }
-    if found == q {
-        Ok(Some(message))
-    } else {
-        Ok(None)
-    }
+    let whole = message.len() / RECORD == q;
+    Ok(if whole { Some(message) } else { None })
 }
 
 /// The GRANTs among replies that make the claim of the first, as far as a quorum of them.
 fn certificate_of(
     heap: Global,
-    replies: &[[u8; RECORD]],
+    replies: &Replies,
     q: usize,
-) -> Result<Option<Vec<u8>>, Trouble> {
+) -> Result<Option<Vec<u8>>, AllocError> {
     let Some(first) = replies.first() else {
         return Ok(None);
     };
     let claim = Statement::read(first).claim();
-    let mut same = Vec::new(heap);
-    for raw in replies {
-        if Statement::read(raw).claim() == claim {
-            same.push(*raw)?;
-        }
-    }
-    quorum_of(heap, same.as_slice(), Kind::Grant, q)
+    let same = replies
+        .iter()
+        .copied()
+        .filter(|raw| Statement::read(raw).claim() == claim)
+        .collect(heap)?;
+    quorum_of(heap, &same, Kind::Grant, q)
 }
 
 /// The highest place that a message's records name.
 fn highest_place(message: &[u8]) -> Place {
-    let mut highest = 0;
-    for part in message.chunks(RECORD) {
-        if let Ok(raw) = <[u8; RECORD]>::try_from(part) {
-            highest = highest.max(Statement::read(&raw).place);
-        }
-    }
-    highest
+    message
+        .chunks(RECORD)
+        .filter_map(|part| <[u8; RECORD]>::try_from(part).ok())
+        .map(|raw| Statement::read(&raw).place)
+        .max()
+        .unwrap_or(0)
 }
 
 impl Rehearsal {
-    /// The certificate of a site that stands at a place.
-    fn certificate_at(&mut self, heap: Global, place: Place) -> Result<Vec<u8>, Trouble> {
-        let shown = Statement::show_cert().unsealed();
-        for site in 0..self.count() {
-            let Some(pool) = &mut self.scenario.pool else {
-                return Err(Trouble::NoPool);
-            };
-            let stands = match pool.state(site) {
-                Some(state) => state.ledger.place == place,
-                None => false,
-            };
-            if stands {
-                let outcome = call(heap, pool, site, &shown, LEAST_ROOM, BOARD)?;
-                return Ok(Vec::from_slice(heap, outcome.written())?);
-            }
+    /// Whether a site stands at a place.
+    fn stands(&self, site: u8, place: Place) -> bool {
+        match self.scenario.site_state(site) {
+            Some(state) => state.ledger.place == place,
+            None => false,
         }
-        Ok(Vec::new(heap))
+    }
+
+    /// The certificate of a site that stands at a place; no bytes where none does.
+    fn certificate_at(&mut self, heap: Global, place: Place) -> Result<Vec<u8>, Trouble> {
+        let Some(site) = (0..self.count()).find(|site| self.stands(*site, place)) else {
+            return Ok(Vec::new(heap));
+        };
+        let shown = Statement::show_cert().unsealed();
+        let outcome = call(
+            heap,
+            self.scenario.pool_mut()?,
+            site,
+            &shown,
+            Lengths::USUAL,
+        )?;
+        Ok(Vec::from_slice(heap, outcome.written())?)
     }
 
     /// The sealed REQUEST of an office's open write, if it has one.
     pub(crate) fn open_request(&self, client: u8) -> Option<[u8; RECORD]> {
-        let write = self.seats.open_write(client)?;
+        let write = self.seats.office(client).ok()?.desk().write?;
         let asks = Statement::request(client, write.number, &write.operation);
         Some(self.scenario.notary.seal(&asks.unsealed()))
     }
 
-    /// Brings a site that is PULLING up to its target, by what the others were handed.
-    fn pull_up(&mut self, heap: Global, site: u8, out: &mut String) -> Result<(), Trouble> {
-        let state = match &self.scenario.pool {
-            Some(pool) => pool.state(site),
-            None => None,
-        };
-        match state {
-            Some(state) => match state.stage {
-                Stage::Pulling { .. } => self.resend_to(heap, site, out),
-                _ => Ok(()),
-            },
-            None => Ok(()),
+    /// Whether a site is PULLING.
+    fn pulls(&self, site: u8) -> bool {
+        match self.scenario.site_state(site) {
+            Some(state) => matches!(&state.stage, Stage::Pulling { .. }),
+            None => false,
         }
     }
 
     /// The ordering service: makes the ROUND of a quorum of STARTs, and hands it out. Gives its target.
-    fn order(&mut self, heap: Global, starts: Vec<u8>, out: &mut String) -> Result<Place, Trouble> {
+    fn order(&mut self, starts: Vec<u8>, line: &mut Line<'_>) -> Result<Place, Trouble> {
         let mut message = starts;
         let target = highest_place(message.as_slice());
         if target > 0 {
-            let certificate = self.certificate_at(heap, target)?;
+            let certificate = self.certificate_at(line.heap, target)?;
             message.extend_from_slice(certificate.as_slice())?;
         }
         for client in 0..16u8 {
@@ -119,64 +112,52 @@ impl Rehearsal {
                 message.extend_from_slice(&raw)?;
             }
         }
-        out.push_str(format!(in heap;
-            "  the ordering service sends ROUND with the target {target}\n"
-        )?.as_str())?;
-        let _ = self.broadcast(heap, message.as_slice(), out)?;
-        for site in 0..self.count() {
-            if self.reachable(site) {
-                self.pull_up(heap, site, out)?;
+        writeln!(
+            line.answer,
+            "  the ordering service sends ROUND with the target {target}"
+        )?;
+        let _ = self.broadcast(message.as_slice(), line)?;
+        for site in self.reached(line.heap)? {
+            if self.pulls(site) {
+                self.resend_to(site, line)?;
             }
         }
         Ok(target)
     }
 
     /// The GRANTs that the sites show of a place; what they show is not printed.
-    fn shown(&mut self, heap: Global, place: Place) -> Result<Vec<[u8; RECORD]>, Trouble> {
+    fn shown(&mut self, heap: Global, place: Place) -> Result<Replies, Trouble> {
         let asks = Statement::show_grant(place).unsealed();
         let mut replies = Vec::new(heap);
-        for site in 0..self.count() {
-            if self.reachable(site) {
-                if let Reply::Says(raw) = self.send(heap, site, &asks)? {
-                    replies.push(raw)?;
-                }
+        for site in self.reached(heap)? {
+            if let Reply::Says(raw) = self.send(heap, site, &asks)? {
+                replies.push(raw)?;
             }
         }
         Ok(replies)
     }
 
     /// Does the settlement above a target, place by place, as far as a quorum shows it.
-    fn settle(&mut self, heap: Global, target: Place, out: &mut String) -> Result<(), Trouble> {
-        for above in 1..SETTLED + 1 {
+    fn settle(&mut self, target: Place, line: &mut Line<'_>) -> Result<(), Trouble> {
+        for above in 1..=SETTLED {
             let place = target.saturating_add(above);
-            let shown = self.shown(heap, place)?;
-            match certificate_of(heap, shown.as_slice(), self.quorum())? {
-                Some(certificate) => {
-                    out.push_str(format!(in heap;
-                        "  the settlement's place {place} is written\n"
-                    )?.as_str())?;
-                    let _ = self.broadcast(heap, certificate.as_slice(), out)?;
-                }
-                None => return Ok(()),
-            }
+            let shown = self.shown(line.heap, place)?;
+            let Some(certificate) = certificate_of(line.heap, &shown, self.quorum())? else {
+                break;
+            };
+            writeln!(line.answer, "  the settlement's place {place} is written")?;
+            let _ = self.broadcast(certificate.as_slice(), line)?;
         }
         Ok(())
     }
 
     /// Hands a clash to the sites, and settles it where a quorum of them stops.
-    pub(crate) fn resolve(
-        &mut self,
-        heap: Global,
-        clash: &[u8],
-        out: &mut String,
-    ) -> Result<(), Trouble> {
-        let starts = self.broadcast(heap, clash, out)?;
-        match quorum_of(heap, starts.as_slice(), Kind::Start, self.quorum())? {
-            Some(starts) => {
-                let target = self.order(heap, starts, out)?;
-                self.settle(heap, target, out)
-            }
-            None => Ok(()),
+    pub(crate) fn resolve(&mut self, clash: &[u8], line: &mut Line<'_>) -> Result<(), Trouble> {
+        let starts = self.broadcast(clash, line)?;
+        if let Some(starts) = quorum_of(line.heap, &starts, Kind::Start, self.quorum())? {
+            let target = self.order(starts, line)?;
+            self.settle(target, line)?;
         }
+        Ok(())
     }
 }

@@ -1,145 +1,61 @@
 //! The offices of a rehearsal, by their clients' numbers.
-ghost use Rattle.std.specs.Prelude.{◌<◌, IfSome, vec_len};
-
 use crate::seat::Seat;
-use message::Refusal;
 use notary::KeyedNotary;
-use office::Judged;
-use office::asking::Write;
-use record::Operation;
+use office::Office;
 use std::alloc::{AllocError, Global};
+use text::trouble::Trouble;
 
 /// How many clients there are.
 const CLIENTS: usize = 16;
 
-/// A seat for each client, of which those count whose office was made.
+/// A seat for each client whose office was made.
 #[derive(Drop)]
 pub struct Seats {
-    at: Vec<Seat>,
-    made: [bool; CLIENTS],
+    at: Vec<Option<Seat>>,
 }
 
 impl Seats {
     /// No office is made yet.
-    pub fn new(heap: Global, notary: &KeyedNotary) -> Result<Seats, AllocError> {
+    pub fn new(heap: Global) -> Result<Seats, AllocError> {
         let mut at = Vec::new(heap);
-        for client in 0..16u8 {
-            at.push(Seat::new(1, client, notary, 0))?;
+        for _ in 0..CLIENTS {
+            at.push(None)?;
         }
-        Ok(Seats {
-            at,
-            made: [false; CLIENTS],
-        })
+        Ok(Seats { at })
     }
 
     /// Makes the office of a client anew. A write that is still open is given up.
     pub fn make(&mut self, f: u8, client: u8, notary: &KeyedNotary, last: u32) {
-        let at = usize::from(client);
-        if at < CLIENTS {
-            self.made[at] = true;
-        }
-        if let Some(seat) = self.at.get_mut(at) {
-            *seat = Seat::new(f, client, notary, last);
+        if let Some(seat) = self.at.get_mut(usize::from(client)) {
+            *seat = Some(Seat::new(f, client, notary, last));
         }
     }
 
     /// Forgets all offices, as where another pool begins.
     pub fn forget(&mut self) {
-        self.made = [false; CLIENTS];
+        for seat in self.at.iter_mut() {
+            *seat = None;
+        }
     }
 
     /// Whether the office of a client was made.
     pub fn has(&self, client: u8) -> bool {
-        let at = usize::from(client);
-        at < CLIENTS && self.made[at]
+        self.office(client).is_ok()
     }
 
-    /// The place of a client's seat, if its office was made.
-    fn place(&self, client: u8) -> Option<usize>
-        ensures { IfSome result (λ i. i < vec_len self.now.at) }
-    {
-        let at = usize::from(client);
-        if self.has(client) && at < self.at.len() {
-            Some(at)
-        } else {
-            None
+    /// The seat of a client whose office was made.
+    pub fn seat(&mut self, client: u8) -> Result<&mut Seat, Trouble> {
+        match self.at.get_mut(usize::from(client)) {
+            Some(Some(seat)) => Ok(seat),
+            _ => Err(Trouble::NoOffice),
         }
     }
 
-    /// BEGIN at a client's office, if there is one.
-    pub fn begin(
-        &mut self,
-        client: u8,
-        operation: &Operation,
-        output: &mut [u8],
-        board: &mut [u8],
-    ) -> Option<Result<usize, Refusal>> {
-        let at = self.place(client)?;
-        Some(self.at[at].begin(operation, output, board))
-    }
-
-    /// QUERY.
-    pub fn query(
-        &mut self,
-        client: u8,
-        operation: &Operation,
-        nonce: u64,
-        output: &mut [u8],
-        board: &mut [u8],
-    ) -> Option<Result<usize, Refusal>> {
-        let at = self.place(client)?;
-        Some(self.at[at].query(operation, nonce, output, board))
-    }
-
-    /// TAKE.
-    pub fn take(
-        &mut self,
-        client: u8,
-        message: &[u8],
-        output: &[u8],
-        board: &mut [u8],
-    ) -> Option<Result<usize, Refusal>> {
-        let at = self.place(client)?;
-        Some(self.at[at].take(message, output, board))
-    }
-
-    /// JUDGE.
-    pub fn judge(
-        &self,
-        client: u8,
-        output: &mut [u8],
-        board: &mut [u8],
-    ) -> Option<Result<Judged, Refusal>> {
-        let at = self.place(client)?;
-        Some(self.at[at].office().judge(output, board))
-    }
-
-    /// The verdict over the replies to the question.
-    pub fn judge_reading(
-        &self,
-        client: u8,
-        output: &[u8],
-        board: &mut [u8],
-    ) -> Option<Result<Judged, Refusal>> {
-        let at = self.place(client)?;
-        Some(self.at[at].office().judge_reading(output, board))
-    }
-
-    /// CLOSE.
-    pub fn close(&mut self, client: u8) -> Option<Result<u64, Refusal>> {
-        let at = self.place(client)?;
-        Some(self.at[at].close())
-    }
-
-    /// GIVE UP.
-    pub fn give_up(&mut self, client: u8) -> Option<Result<(), Refusal>> {
-        let at = self.place(client)?;
-        Some(self.at[at].give_up())
-    }
-
-    /// The open write of a client's office, if it has one.
-    pub fn open_write(&self, client: u8) -> Option<Write> {
-        let at = self.place(client)?;
-        self.at[at].office().desk().write
+    /// The office of a client.
+    pub fn office(&self, client: u8) -> Result<&Office<KeyedNotary>, Trouble> {
+        match self.at.get(usize::from(client)) {
+            Some(Some(seat)) => Ok(seat.office()),
+            _ => Err(Trouble::NoOffice),
+        }
     }
 }

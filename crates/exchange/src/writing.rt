@@ -1,13 +1,13 @@
 //! A whole write: an office asks, judges what it hears, and sends what the verdict wants, until it has the answer.
+use crate::buffers::Buffers;
 use crate::calls::verdict_name;
 use crate::rehearsal::Rehearsal;
-use message::limits::{BOARD, LEAST_ROOM};
+use crate::turn::Turn;
 use office::Verdict;
 use record::Operation;
-use scenario::trouble::Trouble;
-use std::alloc::{AllocError, Global};
-use text::meaning::{slot_write, title_write};
-use text::words::Kept;
+use text::line::Line;
+use text::meaning::WriteAnswer;
+use text::trouble::Trouble;
 
 /// How often an office asks again before it leaves the write open.
 const TURNS: u8 = 6;
@@ -20,155 +20,122 @@ struct Found {
 }
 
 impl Rehearsal {
-    /// What the kind of object's answer to a write means.
-    fn meaning(&self, answer: u64) -> &'static str {
-        match &self.scenario.pool {
-            Some(pool) => match pool.kept() {
-                Kept::Titles => title_write(answer),
-                Kept::Slots => slot_write(answer),
-            },
-            None => "",
-        }
-    }
-
     /// JUDGE at an office, with the line of its verdict.
-    fn judged(&self, heap: Global, client: u8, out: &mut String) -> Result<Found, Trouble> {
-        let mut output = [0; LEAST_ROOM];
-        let mut board = [0; BOARD];
-        let Some(result) = self.seats.judge(client, &mut output, &mut board) else {
+    fn judged(&self, client: u8, line: &mut Line<'_>) -> Result<Found, Trouble> {
+        let mut buffers = Buffers::new();
+        let office = self.seats.office(client)?;
+        let Ok(found) = office.judge(&mut buffers.output, &mut buffers.board) else {
             return Err(Trouble::NoOffice);
         };
-        let Ok(found) = result else {
-            return Err(Trouble::NoOffice);
-        };
-        let name = verdict_name(&found.verdict);
-        out.push_str("  verdict ")?;
-        out.push_str(name)?;
-        out.push('\n')?;
+        writeln!(line.answer, "  verdict {}", verdict_name(&found.verdict))?;
         Ok(Found {
             verdict: found.verdict,
-            message: Vec::from_slice(heap, &output[0..found.count.min(LEAST_ROOM)])?,
+            message: Vec::from_slice(line.heap, buffers.written(found.count))?,
         })
     }
 
     /// Sends the REQUEST of an office's open write, and shows the replies to the office.
-    fn ask(&mut self, heap: Global, client: u8, out: &mut String) -> Result<(), Trouble> {
-        let Some(request) = self.open_request(client) else {
-            return Err(Trouble::NoWrite);
-        };
-        let replies = self.broadcast(heap, &request, out)?;
-        self.take_all(client, replies.as_slice());
-        Ok(())
+    fn ask(&mut self, client: u8, line: &mut Line<'_>) -> Result<(), Trouble> {
+        let request = self.open_request(client).ok_or(Trouble::NoWrite)?;
+        let replies = self.broadcast(&request, line)?;
+        self.take_all(client, &replies)
     }
 
     /// Ends a write that has its answer.
-    fn finish(&mut self, heap: Global, client: u8, out: &mut String) -> Result<(), Trouble> {
-        if let Some(Ok(answer)) = self.seats.close(client) {
-            let meaning = self.meaning(answer);
-            out.push_str(format!(in heap; "  answer {answer}, {meaning}\n")?.as_str())?;
+    fn finish(&mut self, client: u8, line: &mut Line<'_>) -> Result<(), Trouble> {
+        let kept = self.scenario.pool()?.kept();
+        if let Ok(answer) = self.seats.seat(client)?.close() {
+            let means = WriteAnswer { kept, answer };
+            writeln!(line.answer, "  answer {answer}, {means}")?;
         }
         Ok(())
     }
 
-    /// Sends what a verdict wants. Says whether the write may go on.
-    fn follow(
-        &mut self,
-        heap: Global,
-        client: u8,
-        found: &Found,
-        out: &mut String,
-    ) -> Result<bool, Trouble> {
-        match found.verdict {
-            Verdict::Certify => {
-                let replies = self.broadcast(heap, found.message.as_slice(), out)?;
-                self.take_all(client, replies.as_slice());
-            }
-            Verdict::Back => {
-                let _ = self.broadcast(heap, found.message.as_slice(), out)?;
-            }
-            Verdict::Clash => {
-                let mut message = Vec::from_slice(heap, found.message.as_slice())?;
-                if let Some(request) = self.open_request(client) {
-                    message.extend_from_slice(&request)?;
-                }
-                self.resolve(heap, message.as_slice(), out)?;
-            }
-            Verdict::Catch { site: _ } => self.resend_to_all(heap, out)?,
-            Verdict::Wait => return Ok(false),
-            Verdict::Done { answer: _ } => {}
-        }
-        Ok(true)
-    }
-
     /// Judges, and ends the write where it has its answer; else gives what to follow.
-    fn judged_open(
-        &mut self,
-        heap: Global,
-        client: u8,
-        out: &mut String,
-    ) -> Result<Option<Found>, Trouble> {
-        let found = self.judged(heap, client, out)?;
+    fn judged_open(&mut self, client: u8, line: &mut Line<'_>) -> Result<Option<Found>, Trouble> {
+        let found = self.judged(client, line)?;
         if let Verdict::Done { .. } = found.verdict {
-            self.finish(heap, client, out)?;
+            self.finish(client, line)?;
             return Ok(None);
         }
         Ok(Some(found))
     }
 
-    /// One turn: asks, judges, and follows the verdict. Says whether there is another turn.
-    fn turn(&mut self, heap: Global, client: u8, out: &mut String) -> Result<bool, Trouble> {
-        self.ask(heap, client, out)?;
-        let Some(found) = self.judged_open(heap, client, out)? else {
-            return Ok(false);
-        };
-        if !self.follow(heap, client, &found, out)? {
-            out.push_str("  too few sites are reached: the write stays open\n")?;
-            return Ok(false);
-        }
-        match found.verdict {
-            Verdict::Certify => match self.judged_open(heap, client, out)? {
-                Some(_) => Ok(true),
-                None => Ok(false),
-            },
-            _ => Ok(true),
+    /// Sends a certificate, and judges what the sites answer.
+    fn certify(
+        &mut self,
+        client: u8,
+        certificate: &[u8],
+        line: &mut Line<'_>,
+    ) -> Result<Turn, Trouble> {
+        let replies = self.broadcast(certificate, line)?;
+        self.take_all(client, &replies)?;
+        match self.judged_open(client, line)? {
+            Some(_) => Ok(Turn::More),
+            None => Ok(Turn::Last),
         }
     }
 
+    /// Hands a clash to the sites, with the office's request.
+    fn clash(&mut self, client: u8, found: Found, line: &mut Line<'_>) -> Result<(), Trouble> {
+        let mut message = found.message;
+        if let Some(request) = self.open_request(client) {
+            message.extend_from_slice(&request)?;
+        }
+        self.resolve(message.as_slice(), line)
+    }
+
+    /// One turn: asks, judges, and follows the verdict.
+    fn turn(&mut self, client: u8, line: &mut Line<'_>) -> Result<Turn, Trouble> {
+        self.ask(client, line)?;
+        let Some(found) = self.judged_open(client, line)? else {
+            return Ok(Turn::Last);
+        };
+        match found.verdict {
+            Verdict::Certify => return self.certify(client, found.message.as_slice(), line),
+            Verdict::Back => {
+                let _ = self.broadcast(found.message.as_slice(), line)?;
+            }
+            Verdict::Clash => self.clash(client, found, line)?,
+            Verdict::Catch { .. } => self.resend_to_all(line)?,
+            Verdict::Done { .. } => {}
+            Verdict::Wait => {
+                writeln!(
+                    line.answer,
+                    "  too few sites are reached: the write stays open"
+                )?;
+                return Ok(Turn::Last);
+            }
+        }
+        Ok(Turn::More)
+    }
+
     /// Goes on with an office's open write until it is done, or too few sites are reached.
-    pub(crate) fn go_on(
-        &mut self,
-        heap: Global,
-        client: u8,
-        out: &mut String,
-    ) -> Result<(), Trouble> {
+    pub(crate) fn go_on(&mut self, client: u8, line: &mut Line<'_>) -> Result<(), Trouble> {
         for _ in 0..TURNS {
-            if !self.turn(heap, client, out)? {
+            if self.turn(client, line)? == Turn::Last {
                 return Ok(());
             }
         }
-        out.push_str("  the write stays open\n")?;
+        writeln!(line.answer, "  the write stays open")?;
         Ok(())
     }
 
     /// Begins a write at an office, and goes on with it.
     pub(crate) fn write_through(
         &mut self,
-        heap: Global,
         client: u8,
         operation: &Operation,
-        out: &mut String,
+        line: &mut Line<'_>,
     ) -> Result<(), Trouble> {
-        let mut output = [0; LEAST_ROOM];
-        let mut board = [0; BOARD];
-        match self.seats.begin(client, operation, &mut output, &mut board) {
-            Some(Ok(_)) => self.go_on(heap, client, out),
-            Some(Err(refusal)) => {
-                out.push_str("  refused, ")?;
-                out.push_str(refusal.name())?;
-                out.push('\n')?;
+        let mut buffers = Buffers::new();
+        let seat = self.seats.seat(client)?;
+        match seat.begin(operation, &mut buffers.output, &mut buffers.board) {
+            Ok(_) => self.go_on(client, line),
+            Err(refusal) => {
+                writeln!(line.answer, "  refused, {}", refusal.name())?;
                 Ok(())
             }
-            None => Err(Trouble::NoOffice),
         }
     }
 }

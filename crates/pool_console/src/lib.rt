@@ -1,12 +1,10 @@
-// The program's commands for a whole pool, as functions from text to text.
-//
-// `register_pool` and `register_pool_play` only hand arguments, input and output through; what a line asks for is decided
-// here, and in `scenario` and `exchange` for lines about a pool. Seals and messages are told by `console`.
-// The answers come from the objects' own calls: `Bench` says so by its contracts. The wording of a line is tested, not proved.
+//! The program for a whole pool: its lines, its story and its help.
+//!
+//! `register_pool` and `register_pool_play` hand arguments, input and output through `console::program`; what a line asks
+//! for is decided by `exchange` for lines about a pool and its offices, by `scenario` for those on single sites, and by
+//! `console` for steps on an object alone. The wording of a line is tested, not proved.
 #![tactic(auto)]
 
 pub mod play;
-pub mod program;
-pub mod step;
 pub mod story;
 pub mod usage;

@@ -1,8 +1,6 @@
-// The built-in story: four sites, offices that clash, a site that is brought back, and one that lies.
-use crate::play::Player;
-use std::alloc::{AllocError, Global};
+//! The built-in story: four sites, offices that clash, a site that is brought back, and one that lies.
 
-// A script like any other. Its comments are printed too.
+/// A script like any other. Its comments are printed too.
 pub const STORY: &str =
     "# Four sites keep the titles of bills; one of them may lie. Client 0 is the carrier, 1 the shipper, 2 the bank.
 pool 1 titles
@@ -58,20 +56,3 @@ read 1 look 6
 read 1 look 7
 compare
 ";
-
-// Plays the story.
-pub fn story(heap: Global) -> Result<String, AllocError> {
-    let mut player = Player::new(heap)?;
-    let mut out = String::new(heap);
-    let mut number = 0u64;
-    for line in STORY.lines() {
-        number = number.saturating_add(1);
-        if line.starts_with('#') {
-            out.push_str(line)?;
-            out.push('\n')?;
-        } else {
-            player.line(heap, number, line, &mut out)?;
-        }
-    }
-    Ok(out)
-}

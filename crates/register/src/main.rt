@@ -1,8 +1,11 @@
 // The register's program. With no arguments it plays the built-in story, which is the run that the gate compares.
 #![tactic(auto)]
 
+use console::play::Player;
 use console::program::run;
+use console::story::STORY;
+use console::usage::USAGE;
 
 fn main(rt: HostRuntime) -> anyhow::Result<()> {
-    run(&rt)
+    run(&rt, Player::new(), STORY, USAGE)
 }

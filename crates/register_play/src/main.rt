@@ -1,8 +1,11 @@
 // The same program as `register`, whose run in the gate is `play` over a script on standard input.
 #![tactic(auto)]
 
+use console::play::Player;
 use console::program::run;
+use console::story::STORY;
+use console::usage::USAGE;
 
 fn main(rt: HostRuntime) -> anyhow::Result<()> {
-    run(&rt)
+    run(&rt, Player::new(), STORY, USAGE)
 }

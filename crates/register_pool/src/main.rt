@@ -1,8 +1,11 @@
 // The register's program for a whole pool. With no arguments it plays the built-in story, which is the run that the gate compares.
 #![tactic(auto)]
 
-use pool_console::program::run;
+use console::program::run;
+use pool_console::play::Player;
+use pool_console::story::STORY;
+use pool_console::usage::USAGE;
 
 fn main(rt: HostRuntime) -> anyhow::Result<()> {
-    run(&rt)
+    run(&rt, Player::new(rt.alloc())?, STORY, USAGE)
 }

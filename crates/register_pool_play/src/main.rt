@@ -1,8 +1,11 @@
 // The same program as `register_pool`, whose run in the gate is `play` over a script on standard input.
 #![tactic(auto)]
 
-use pool_console::program::run;
+use console::program::run;
+use pool_console::play::Player;
+use pool_console::story::STORY;
+use pool_console::usage::USAGE;
 
 fn main(rt: HostRuntime) -> anyhow::Result<()> {
-    run(&rt)
+    run(&rt, Player::new(rt.alloc())?, STORY, USAGE)
 }

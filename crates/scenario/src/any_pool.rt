@@ -50,14 +50,8 @@ impl AnyPool {
     pub fn state(&self, site: u8) -> Option<State> {
         let at = usize::from(site);
         match self {
-            AnyPool::Titles(pool) => match pool.sites().get(at) {
-                Some(site) => Some(*site.state()),
-                None => None,
-            },
-            AnyPool::Slots(pool) => match pool.sites().get(at) {
-                Some(site) => Some(*site.state()),
-                None => None,
-            },
+            AnyPool::Titles(pool) => pool.sites().get(at).map(|site| *site.state()),
+            AnyPool::Slots(pool) => pool.sites().get(at).map(|site| *site.state()),
         }
     }
 

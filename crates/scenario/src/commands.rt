@@ -1,18 +1,17 @@
 //! The commands of a scenario, one a line.
 use crate::any_pool::AnyPool;
-use crate::calls::call;
+use crate::calls::{Lengths, call};
 use crate::rehearsal::rehearsal_notary;
-use crate::shown::push_records;
-use crate::states::push_state;
-use crate::trouble::Trouble;
-use message::limits::{BOARD, LEAST_ROOM};
-use message::{Refusal, quorum};
+use crate::shown::{RecordsShown, RefusalShown};
+use crate::states::StateShown;
+use message::quorum;
 use notary::KeyedNotary;
 use site::fitting::check_figures;
-use std::alloc::{AllocError, Global};
-use std::str::SplitWhitespace;
+use site::state::State;
 use text::hex::from_hex;
-use text::words::{Kept, Unreadable, byte, end, object_kind, site};
+use text::line::Line;
+use text::trouble::Trouble;
+use text::words::{Unreadable, Words};
 
 /// The longest output or board that a line may ask for.
 const LONGEST: usize = 1_000_000;
@@ -24,45 +23,19 @@ pub struct Scenario {
     pub pool: Option<AnyPool>,
 }
 
-/// Bytes in hexadecimal, or `-` for none.
-pub fn bytes(heap: Global, words: &mut SplitWhitespace<'_>) -> Result<Vec<u8>, Trouble> {
-    let Some(word) = words.next() else {
-        return Err(Trouble::Unread(Unreadable::NoHex));
-    };
-    if word == "-" {
-        return Ok(Vec::new(heap));
-    }
-    match from_hex(heap, word)? {
-        Some(bytes) => Ok(bytes),
-        None => Err(Trouble::Unread(Unreadable::NoHex)),
+/// The next word as bytes in hexadecimal, or `-` for none.
+pub fn bytes(line: &mut Line<'_>) -> Result<Vec<u8>, Trouble> {
+    match line.words.next().ok_or(Unreadable::NoHex)? {
+        "-" => Ok(Vec::new(line.heap)),
+        word => Ok(from_hex(line.heap, word)?.ok_or(Unreadable::NoHex)?),
     }
 }
 
-/// A length, where the line goes on.
-fn length_or(words: &mut SplitWhitespace<'_>, usual: usize) -> Result<usize, Unreadable> {
-    let Some(word) = words.next() else {
-        return Ok(usual);
-    };
-    match word.parse::<usize>() {
-        Ok(n) if n <= LONGEST => Ok(n),
+/// A length, or the usual one where the line has ended.
+fn length_or(words: &mut Words<'_>, usual: usize) -> Result<usize, Unreadable> {
+    match words.number_or(usual)? {
+        length if length <= LONGEST => Ok(length),
         _ => Err(Unreadable::NoNumber),
-    }
-}
-
-/// Adds why a call was refused.
-pub fn push_refusal(heap: Global, out: &mut String, refusal: &Refusal) -> Result<(), AllocError> {
-    let number = refusal.number;
-    let index = refusal.index;
-    let layer = refusal.layer;
-    let name = refusal.name();
-    out.push_str(format!(in heap; "refused {number} {index} {layer} {name}\n")?.as_str())
-}
-
-/// The word for the kind of an object.
-fn kind_name(kept: Kept) -> &'static str {
-    match kept {
-        Kept::Titles => "titles",
-        Kept::Slots => "slots",
     }
 }
 
@@ -75,104 +48,96 @@ impl Scenario {
         }
     }
 
+    /// The pool.
+    pub fn pool(&self) -> Result<&AnyPool, Trouble> {
+        self.pool.as_ref().ok_or(Trouble::NoPool)
+    }
+
+    /// The pool, to be called.
+    pub fn pool_mut(&mut self) -> Result<&mut AnyPool, Trouble> {
+        self.pool.as_mut().ok_or(Trouble::NoPool)
+    }
+
+    /// The state of a site, if there is a pool that has it.
+    pub fn site_state(&self, site: u8) -> Option<State> {
+        self.pool.as_ref()?.state(site)
+    }
+
     /// `pool F titles|slots`: a fresh pool in the place of the one before.
-    fn pool(
-        &mut self,
-        heap: Global,
-        words: &mut SplitWhitespace<'_>,
-        out: &mut String,
-    ) -> Result<(), Trouble> {
-        let f = byte(words)?;
-        let kept = object_kind(words)?;
-        end(words)?;
-        let name = kind_name(kept);
+    pub fn restart(&mut self, line: &mut Line<'_>) -> Result<(), Trouble> {
+        let f = line.words.number()?;
+        let kept = line.words.kept()?;
+        line.words.end()?;
         if let Err(refusal) = check_figures(f, 0) {
-            out.push_str(format!(in heap; "pool {f} {name} ")?.as_str())?;
-            push_refusal(heap, out, &refusal)?;
+            let refused = RefusalShown(refusal);
+            writeln!(line.answer, "pool {f} {kept} {refused}")?;
             return Ok(());
         }
         let q = quorum(f);
         let n = 3 * usize::from(f) + 1;
-        self.pool = Some(AnyPool::new(heap, f, kept, &self.notary)?);
-        out.push_str(format!(in heap; "pool {f} {name} sites {n} quorum {q}\n")?.as_str())?;
+        self.pool = Some(AnyPool::new(line.heap, f, kept, &self.notary)?);
+        writeln!(line.answer, "pool {f} {kept} sites {n} quorum {q}")?;
         Ok(())
     }
 
     /// `call SITE HEX [OUTLEN [BOARDLEN]]`: hands bytes to a site.
-    fn call(
-        &mut self,
-        heap: Global,
-        words: &mut SplitWhitespace<'_>,
-        out: &mut String,
-    ) -> Result<(), Trouble> {
-        let at = site(words)?;
-        let message = bytes(heap, words)?;
-        let room = length_or(words, LEAST_ROOM)?;
-        let board = length_or(words, BOARD)?;
-        end(words)?;
-        let Some(pool) = &mut self.pool else {
-            return Err(Trouble::NoPool);
-        };
-        let outcome = call(heap, pool, at, message.as_slice(), room, board)?;
-        out.push_str(format!(in heap; "call {at} ")?.as_str())?;
-        match &outcome.result {
+    fn call(&mut self, line: &mut Line<'_>) -> Result<(), Trouble> {
+        let at = line.words.site()?;
+        let message = bytes(line)?;
+        let usual = Lengths::USUAL;
+        let output = length_or(&mut line.words, usual.output)?;
+        let board = length_or(&mut line.words, usual.board)?;
+        line.words.end()?;
+        let lengths = Lengths { output, board };
+        let outcome = call(line.heap, self.pool_mut()?, at, message.as_slice(), lengths)?;
+        match outcome.result {
             Ok(_) => {
-                out.push_str("ok ")?;
-                push_records(out, &self.notary, Some(at), outcome.written())?;
-                out.push('\n')?;
+                let records = RecordsShown {
+                    notary: &self.notary,
+                    site: Some(at),
+                    bytes: outcome.written(),
+                };
+                writeln!(line.answer, "call {at} ok {records}")?;
             }
-            Err(refusal) => push_refusal(heap, out, refusal)?,
+            Err(refusal) => writeln!(line.answer, "call {at} {}", RefusalShown(refusal))?,
         }
         Ok(())
     }
 
     /// `seal HEX`: the records with their seals filled in.
-    fn seal(
-        &self,
-        heap: Global,
-        words: &mut SplitWhitespace<'_>,
-        out: &mut String,
-    ) -> Result<(), Trouble> {
-        let records = bytes(heap, words)?;
-        end(words)?;
-        out.push_str("seal ")?;
-        push_records(out, &self.notary, None, records.as_slice())?;
-        out.push('\n')?;
+    fn seal(&self, line: &mut Line<'_>) -> Result<(), Trouble> {
+        let bytes = bytes(line)?;
+        line.words.end()?;
+        let records = RecordsShown {
+            notary: &self.notary,
+            site: None,
+            bytes: bytes.as_slice(),
+        };
+        writeln!(line.answer, "seal {records}")?;
         Ok(())
     }
 
     /// `state SITE`: what a site keeps.
-    fn state(
-        &self,
-        heap: Global,
-        words: &mut SplitWhitespace<'_>,
-        out: &mut String,
-    ) -> Result<(), Trouble> {
-        let at = site(words)?;
-        end(words)?;
-        let Some(pool) = &self.pool else {
-            return Err(Trouble::NoPool);
+    fn state(&self, line: &mut Line<'_>) -> Result<(), Trouble> {
+        let site = line.words.site()?;
+        line.words.end()?;
+        let state = self.pool()?.state(site).ok_or(Trouble::NoSite)?;
+        let shown = StateShown {
+            site,
+            state: &state,
         };
-        let Some(state) = pool.state(at) else {
-            return Err(Trouble::NoSite);
-        };
-        push_state(heap, out, at, &state)?;
+        writeln!(line.answer, "{shown}")?;
         Ok(())
     }
 
     /// Does what a line asks for, whose first word is given, and adds the text that answers it.
-    pub fn command(
-        &mut self,
-        heap: Global,
-        word: &str,
-        words: &mut SplitWhitespace<'_>,
-        out: &mut String,
-    ) -> Result<(), Trouble> {
+    pub fn command(&mut self, word: &str, line: &mut Line<'_>) -> Result<(), Trouble> {
+        // A match, since each word has a method of its own: a table of them would hold function pointers.
         match word {
-            "pool" => self.pool(heap, words, out),
-            "call" => self.call(heap, words, out),
-            "seal" => self.seal(heap, words, out),
-            "state" => self.state(heap, words, out),
+            "pool" => self.restart(line),
+            "call" => self.call(line),
+            "seal" => self.seal(line),
+            "state" => self.state(line),
             _ => Err(Trouble::Unread(Unreadable::NoCommand)),
         }
     }

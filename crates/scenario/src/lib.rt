@@ -11,4 +11,3 @@ pub mod commands;
 pub mod rehearsal;
 pub mod shown;
 pub mod states;
-pub mod trouble;

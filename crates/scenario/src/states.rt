@@ -1,9 +1,11 @@
 //! A site's state as one line of text.
-use crate::shown::{push_claim, push_done, push_request};
+ghost use Rattle.std.specs.Iterator.{IsFinite};
+
+use crate::shown::{ClaimShown, DoneShown, RequestShown};
 use message::Request;
-use record::Claim;
-use site::state::{Current, Done, Settlement, Stage, State};
-use std::alloc::{AllocError, Global};
+use record::Round;
+use site::state::{Done, Settlement, Stage, State};
+use std::fmt;
 
 /// The stage's name.
 pub fn stage_name(stage: &Stage) -> &'static str {
@@ -15,127 +17,121 @@ pub fn stage_name(stage: &Stage) -> &'static str {
     }
 }
 
-/// Begins an item of a list: a comma goes before all but the first.
-fn next_item(out: &mut String, first: &mut bool) -> Result<(), AllocError> {
-    if !*first {
-        out.push(',')?;
-    }
-    *first = false;
-    Ok(())
-}
+/// A value, or the word none.
+#[derive(Clone, Copy)]
+struct OrNone<T>(Option<T>);
 
-/// Ends a list, whose word for nothing is none.
-fn end_list(out: &mut String, empty: bool) -> Result<(), AllocError> {
-    if empty { out.push_str("none") } else { Ok(()) }
-}
-
-fn push_claim_or_none(
-    heap: Global,
-    out: &mut String,
-    claim: &Option<Claim>,
-) -> Result<(), AllocError> {
-    match claim {
-        Some(claim) => push_claim(heap, out, claim),
-        None => out.push_str("none"),
-    }
-}
-
-fn push_current(
-    heap: Global,
-    out: &mut String,
-    current: &Option<Current>,
-) -> Result<(), AllocError> {
-    match current {
-        Some(current) => push_claim(heap, out, &current.claim),
-        None => out.push_str("none"),
-    }
-}
-
-fn push_waiting(
-    heap: Global,
-    out: &mut String,
-    waiting: &[Option<Request>; 16],
-) -> Result<(), AllocError> {
-    let mut first = true;
-    for entry in waiting {
-        if let Some(request) = entry {
-            next_item(out, &mut first)?;
-            push_request(heap, out, request)?;
+impl<T: fmt::Display> fmt::Display for OrNone<T> {
+    fn fmt<W: fmt::Write>(&self, f: &mut fmt::Formatter<W>) -> fmt::Result {
+        match &self.0 {
+            Some(value) => write!(f, "{value}"),
+            None => f.write_str("none"),
         }
     }
-    end_list(out, first)
 }
 
-fn push_all_done(
-    heap: Global,
-    out: &mut String,
-    done: &[Option<Done>; 16],
-) -> Result<(), AllocError> {
-    let mut first = true;
-    for entry in done {
-        if let Some(done) = entry {
-            next_item(out, &mut first)?;
-            push_done(heap, out, done)?;
-        }
+/// Writes values with commas between them, or the word none where there are none.
+fn write_list<W: fmt::Write, T: fmt::Display + Drop, I: Iterator<Item = T> + Drop>(
+    f: &mut fmt::Formatter<W>,
+    items: I,
+) -> fmt::Result
+    requires can { I.can_next items }
+    requires ends { IsFinite (I.remaining items) }
+{
+    let mut items = items.peekable();
+    match items.peek() {
+        Some(_) => f.write_joined(items, ","),
+        None => f.write_str("none"),
     }
-    end_list(out, first)
+}
+
+/// The requests that wait.
+#[derive(Clone, Copy)]
+struct Waiting<'a>(&'a [Option<Request>]);
+
+impl fmt::Display for Waiting<'_> {
+    fn fmt<W: fmt::Write>(&self, f: &mut fmt::Formatter<W>) -> fmt::Result {
+        write_list(
+            f,
+            self.0
+                .iter()
+                .filter_map(|slot| slot.map(|request| RequestShown(request))),
+        )
+    }
+}
+
+/// The writes that were done last.
+#[derive(Clone, Copy)]
+struct LastDone<'a>(&'a [Option<Done>]);
+
+impl fmt::Display for LastDone<'_> {
+    fn fmt<W: fmt::Write>(&self, f: &mut fmt::Formatter<W>) -> fmt::Result {
+        write_list(
+            f,
+            self.0
+                .iter()
+                .filter_map(|slot| slot.map(|done| DoneShown(done))),
+        )
+    }
 }
 
 /// The claims of a settlement of a round: one mark, and at most sixteen requests.
-fn push_settled(
-    heap: Global,
-    out: &mut String,
-    round: u32,
-    settlement: &Settlement,
-) -> Result<(), AllocError> {
-    let mut first = true;
-    for above in 1..18u32 {
-        let place = settlement.target.saturating_add(above);
-        if let Some(claim) = settlement.claim_at(round, place) {
-            next_item(out, &mut first)?;
-            push_claim(heap, out, &claim)?;
-        }
-    }
-    end_list(out, first)
+#[derive(Clone, Copy)]
+struct Settled<'a> {
+    round: Round,
+    settlement: &'a Settlement,
 }
 
-fn push_settlement(heap: Global, out: &mut String, state: &State) -> Result<(), AllocError> {
-    match &state.settlement {
-        Some(settlement) => push_settled(heap, out, state.round, settlement),
-        None => out.push_str("none"),
+impl fmt::Display for Settled<'_> {
+    fn fmt<W: fmt::Write>(&self, f: &mut fmt::Formatter<W>) -> fmt::Result {
+        let Settled { round, settlement } = *self;
+        let claims = (1..18u32).filter_map(|above| {
+            settlement
+                .claim_at(round, settlement.target.saturating_add(above))
+                .map(|claim| ClaimShown(claim))
+        });
+        write_list(f, claims)
     }
 }
 
-fn push_target(heap: Global, out: &mut String, stage: &Stage) -> Result<(), AllocError> {
-    match stage {
-        Stage::Pulling { target, .. } => out.push_str(format!(in heap; "{target}")?.as_str()),
-        _ => out.push_str("none"),
-    }
+/// The line of a site's state.
+#[derive(Clone, Copy)]
+pub struct StateShown<'a> {
+    pub site: u8,
+    pub state: &'a State,
 }
 
-/// Adds the line of a site's state.
-pub fn push_state(
-    heap: Global,
-    out: &mut String,
-    site: u8,
-    state: &State,
-) -> Result<(), AllocError> {
-    let stage = stage_name(&state.stage);
-    let round = state.round;
-    let place = state.ledger.place;
-    out.push_str(format!(in heap;
-        "state {site} stage={stage} round={round} place={place} current="
-    )?.as_str())?;
-    push_current(heap, out, &state.ledger.current)?;
-    out.push_str(" grant=")?;
-    push_claim_or_none(heap, out, &state.asked.out)?;
-    out.push_str(" waiting=")?;
-    push_waiting(heap, out, &state.asked.waiting)?;
-    out.push_str(" done=")?;
-    push_all_done(heap, out, &state.ledger.done)?;
-    out.push_str(" target=")?;
-    push_target(heap, out, &state.stage)?;
-    out.push_str(" settlement=")?;
-    push_settlement(heap, out, state)?;
-    out.push('\n')
+impl fmt::Display for StateShown<'_> {
+    fn fmt<W: fmt::Write>(&self, f: &mut fmt::Formatter<W>) -> fmt::Result {
+        let site = self.site;
+        let State {
+            stage,
+            round,
+            ledger,
+            asked,
+            settlement,
+        } = self.state;
+        let name = stage_name(stage);
+        let place = ledger.place;
+        let current = OrNone(ledger.current.map(|current| ClaimShown(current.claim)));
+        write!(
+            f,
+            "state {site} stage={name} round={round} place={place} current={current}"
+        )?;
+        let grant = OrNone(asked.out.map(|claim| ClaimShown(claim)));
+        let waiting = Waiting(&asked.waiting);
+        let done = LastDone(&ledger.done);
+        write!(f, " grant={grant} waiting={waiting} done={done}")?;
+        let target = OrNone(match stage {
+            Stage::Pulling { target, .. } => Some(*target),
+            _ => None,
+        });
+        let settled = OrNone(
+            settlement.as_ref().map(|settlement| Settled {
+                round: *round,
+                settlement,
+            }),
+        );
+        write!(f, " target={target} settlement={settled}")
+    }
 }

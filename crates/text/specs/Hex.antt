@@ -17,6 +17,19 @@ digit_value c =
     (cond (nat_le 97 c && nat_le c 102) (Some (c - 87))
     (cond (nat_le 65 c && nat_le c 70) (Some (c - 55)) None))
 
+-- The byte of two halves, where both are there.
+abbrev pub byte_of : Option ℕ → Option ℕ → Option ℕ
+byte_of (Some high) (Some low) = Some (high * 16 + low)
+byte_of (Some high) None = None
+byte_of None low = None
+
+-- The byte that two digits write, where they are two.
+abbrev pub pair_value : List ℕ → Option ℕ
+pair_value [] = None
+pair_value (high ∷ []) = None
+pair_value (high ∷ low ∷ []) = byte_of (digit_value high) (digit_value low)
+pair_value (high ∷ low ∷ more ∷ rest) = None
+
 -- A byte in front of bytes, where all are there.
 abbrev pub byte_before : Option ℕ → Option ℕ → Option (List ℕ) → Option (List ℕ)
 byte_before (Some high) (Some low) (Some bytes) = Some ((high * 16 + low) ∷ bytes)

@@ -1,4 +1,4 @@
-// What a client does to an object, in words.
+//! What a client does to an object, in words.
 ghost use Rattle.text.specs.Deeds.{operation_of};
 ghost use Rattle.std.specs.Prelude.{◌≡◌, ◌∷◌, replicate, slice_index};
 
@@ -6,36 +6,29 @@ use record::Operation;
 use record::layout::u32_bytes;
 use std::fmt;
 
-// A write or a reading of titles or slots.
+/// A write or a reading of titles or slots.
 #[derive(Clone, Copy)]
 pub enum Deed {
     Issue { title: u8, receiver: u8 },
     Transfer { title: u8, receiver: u8 },
     Surrender { title: u8 },
-    // who holds a title?
+    /// who holds a title?
     Title { title: u8 },
     Move { account: u8, amount: u32 },
-    // what does an account hold?
+    /// what does an account hold?
     Account { account: u8 },
 }
 
-// An operation of a code, what it is about, and up to four bytes more.
+/// An operation of a code, what it is about, and up to four bytes more.
 fn packed(code: u8, about: u8, more: [u8; 4]) -> Operation
     ensures { result ≡ code ∷ about ∷ slice_index more 0 ∷ slice_index more 1 ∷ slice_index more 2 ∷ slice_index more 3 ∷ replicate 10 0 }
 {
     let [a, b, c, d] = more;
-    let mut operation = [0; 16];
-    operation[0] = code;
-    operation[1] = about;
-    operation[2] = a;
-    operation[3] = b;
-    operation[4] = c;
-    operation[5] = d;
-    operation
+    [code, about, a, b, c, d, 0, 0, 0, 0, 0, 0, 0, 0, 0, 0]
 }
 
 impl Deed {
-    // The sixteen bytes that an object is given.
+    /// The sixteen bytes that an object is given.
     pub fn operation(&self) -> Operation
         ensures { result ≡ operation_of self.now }
     {

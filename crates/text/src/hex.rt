@@ -1,11 +1,16 @@
-// Bytes as hexadecimal text.
-ghost use Rattle.std.specs.Prelude.{◌≡◌, ◌+◌, ◌/◌, ◌%◌, ◌<◌, true, ◌++◌, IfSome, is_ok, IfOk, vec_items, string_bytes};
-ghost use Rattle.text.specs.Hex.{hex_digit, hex_text, digit_value, hex_bytes};
+//! Bytes as hexadecimal text.
+ghost use Rattle.std.specs.Prelude.{◌≡◌, ◌+◌, ◌/◌, ◌%◌, ◌<◌, true, ◌++◌, Some, IfSome, is_ok, IfOk, vec_items, string_bytes};
+ghost use Rattle.text.specs.Hex.{hex_digit, hex_text, digit_value, pair_value, hex_bytes};
 ghost use Rattle.std.specs.Option.{option_map};
 
 use std::alloc::{AllocError, Global};
+use std::fmt;
 
-// The character that writes a number below sixteen.
+/// Bytes that print as hexadecimal text.
+#[derive(Clone, Copy)]
+pub struct Hex<'a>(pub &'a [u8]);
+
+/// The character that writes a number below sixteen.
 fn digit(n: u8) -> char
     requires { n < 16 }
     ensures { result ≡ hex_digit n }
@@ -17,18 +22,19 @@ fn digit(n: u8) -> char
     }
 }
 
-// Adds the text that writes bytes.
-pub fn push_hex(out: &mut String, bytes: &[u8]) -> Result<(), AllocError>
-    ensures { is_ok result ≡ true → string_bytes out.new ≡ string_bytes out.old ++ hex_text bytes.now }
-{
-    for b in bytes {
-        out.push(digit(*b / 16))?;
-        out.push(digit(*b % 16))?;
+impl fmt::Display for Hex<'_> {
+    ghost output = { λ h. Some (hex_text h.0.now) };
+
+    fn fmt<W: fmt::Write>(&self, f: &mut fmt::Formatter<W>) -> fmt::Result {
+        for b in self.0 {
+            f.write_char(digit(*b / 16))?;
+            f.write_char(digit(*b % 16))?;
+        }
+        Ok(())
     }
-    Ok(())
 }
 
-// The number that a digit writes, in either case of its letter.
+/// The number that a digit writes, in either case of its letter.
 fn value(digit: u8) -> Option<u8>
     ensures value { result ≡ digit_value digit }
     ensures small { IfSome result (λ v. v < 16) }
@@ -41,23 +47,26 @@ fn value(digit: u8) -> Option<u8>
     }
 }
 
-// The bytes that a text writes, or none where it writes no bytes.
+/// The byte that two digits write.
+fn byte(digits: &[u8]) -> Option<u8>
+    ensures { result ≡ pair_value digits.now }
+{
+    let [high, low] = digits else {
+        return None;
+    };
+    Some(value(*high)? * 16 + value(*low)?)
+}
+
+/// The bytes that a text writes, or none where it writes no bytes.
 pub fn from_hex(heap: Global, text: &str) -> Result<Option<Vec<u8>>, AllocError>
     ensures { IfOk result (λ o. option_map vec_items o ≡ hex_bytes text.now) }
 {
-    let digits = text.as_bytes();
     let mut bytes = Vec::new(heap);
-    for i in 0..digits.len() / 2 {
-        let Some(high) = value(digits[2 * i]) else {
+    for digits in text.as_bytes().chunks(2) {
+        let Some(byte) = byte(digits) else {
             return Ok(None);
         };
-        let Some(low) = value(digits[2 * i + 1]) else {
-            return Ok(None);
-        };
-        bytes.push(high * 16 + low)?;
-    }
-    if digits.len() % 2 == 1 {
-        return Ok(None);
+        bytes.push(byte)?;
     }
     Ok(Some(bytes))
 }

@@ -1,56 +1,47 @@
-// What the objects' answers mean, in words.
+//! What the objects' answers mean, in words.
+use crate::words::Kept;
 use object::answers::{OUT_OF_REACH, UNKNOWN_CODE};
 use std::fmt;
 
-// How titles answer a write.
-pub fn title_write(answer: u64) -> &'static str {
-    match answer {
-        0 => "done",
-        1 => "refused, no such title or receiver",
-        2 => "refused, the writer may not do this",
-        3 => "refused, the title is in another state",
-        _ => "refused, no such operation",
-    }
-}
-
-// How slots answer a write.
-pub fn slot_write(answer: u64) -> &'static str {
-    match answer {
-        0 => "done",
-        1 => "refused, no such account",
-        2 => "refused, the writer has too few slots",
-        _ => "refused, no such operation",
-    }
-}
-
-// How titles answer a reading.
+/// An object's answer to a write. Each number is one that the records hold.
 #[derive(Clone, Copy)]
-pub struct TitleShown(pub u64);
+pub struct WriteAnswer {
+    pub kept: Kept,
+    pub answer: u64,
+}
 
-impl fmt::Display for TitleShown {
+impl fmt::Display for WriteAnswer {
     fn fmt<W: fmt::Write>(&self, f: &mut fmt::Formatter<W>) -> fmt::Result {
-        let holder = self.0;
-        match holder {
-            16 => f.write_str("unissued"),
-            17 => f.write_str("surrendered"),
-            OUT_OF_REACH => f.write_str("there is no such title"),
-            UNKNOWN_CODE => f.write_str("there is no such reading"),
-            _ => write!(f, "held by client {holder}"),
-        }
+        f.write_str(match (self.kept, self.answer) {
+            (_, 0) => "done",
+            (Kept::Titles, 1) => "refused, no such title or receiver",
+            (Kept::Titles, 2) => "refused, the writer may not do this",
+            (Kept::Titles, 3) => "refused, the title is in another state",
+            (Kept::Slots, 1) => "refused, no such account",
+            (Kept::Slots, 2) => "refused, the writer has too few slots",
+            _ => "refused, no such operation",
+        })
     }
 }
 
-// How slots answer a reading.
+/// An object's answer to a reading. Each number is one that the records hold.
 #[derive(Clone, Copy)]
-pub struct BalanceShown(pub u64);
+pub struct LookAnswer {
+    pub kept: Kept,
+    pub answer: u64,
+}
 
-impl fmt::Display for BalanceShown {
+impl fmt::Display for LookAnswer {
     fn fmt<W: fmt::Write>(&self, f: &mut fmt::Formatter<W>) -> fmt::Result {
-        let balance = self.0;
-        match balance {
-            OUT_OF_REACH => f.write_str("there is no such account"),
-            UNKNOWN_CODE => f.write_str("there is no such reading"),
-            _ => write!(f, "holds {balance} slots"),
+        let answer = self.answer;
+        match (self.kept, answer) {
+            (_, UNKNOWN_CODE) => f.write_str("there is no such reading"),
+            (Kept::Titles, OUT_OF_REACH) => f.write_str("there is no such title"),
+            (Kept::Slots, OUT_OF_REACH) => f.write_str("there is no such account"),
+            (Kept::Titles, 16) => f.write_str("unissued"),
+            (Kept::Titles, 17) => f.write_str("surrendered"),
+            (Kept::Titles, _) => write!(f, "held by client {answer}"),
+            (Kept::Slots, _) => write!(f, "holds {answer} slots"),
         }
     }
 }

@@ -31,10 +31,7 @@ const KEY: &str = "0000000000000000000000000000000000000000000000000000000000000
 // Under other keys no record is vouched for; a SHOW needs no seal.
 #[test]
 fn seals_are_judged_by_keys(rt: HostRuntime) -> Result<(), Fail> {
-    let mut keys = String::new(rt.alloc());
-    for _ in 0..32 {
-        keys.push_str(KEY)?;
-    }
+    let keys = KEY.repeat(rt.alloc(), 32)?;
     let text = explain_with_keys(rt.alloc(), "1", REQUEST, keys.as_str())?;
     assert!(rt;
         text.as_str()

@@ -1,8 +1,8 @@
 // Every answer of both objects.
-use console::deed::Deed;
 use object::Object;
 use object::slots::Slots;
 use object::titles::Titles;
+use text::deed::Deed;
 
 fn ask(titles: &mut Titles, client: u8, deed: Deed) -> u64 {
     titles.perform(client, &deed.operation())

@@ -63,25 +63,28 @@ fn starts_and_shows_have_limits(rt: HostRuntime) {
     assert!(rt; Statement::show_cert().in_range(1));
 }
 
-// A statement with one field more than its kind uses.
-fn spoiled(says: &Statement, field: u8) -> Statement {
-    let mut other = *says;
-    match field {
-        0 => other.spare = 1,
-        1 => other.answer = 1,
-        2 => other.nonce = 1,
-        3 => other.operation[15] = 1,
-        _ => other.kind = 9,
-    }
-    other
+// A statement with one field more than its kind uses, each field in turn, and with a kind that there is not.
+fn spoiled(says: &Statement) -> [Statement; 5] {
+    let says = *says;
+    let mut operation = says.operation;
+    operation[15] = 1;
+    [
+        Statement { spare: 1, ..says },
+        Statement { answer: 1, ..says },
+        Statement { nonce: 1, ..says },
+        Statement { operation, ..says },
+        Statement { kind: 9, ..says },
+    ]
 }
 
 #[test]
 fn what_a_kind_does_not_use_is_zero(rt: HostRuntime) {
     let start = Statement::start(0, 0, 0);
-    for field in 0u8..5 {
-        assert!(rt; !spoiled(&start, field).in_range(1));
-        assert!(rt; !spoiled(&Statement::show_cert(), field).in_range(1));
+    for other in spoiled(&start) {
+        assert!(rt; !other.in_range(1));
+    }
+    for other in spoiled(&Statement::show_cert()) {
+        assert!(rt; !other.in_range(1));
     }
     let mut none = start;
     none.kind = 0;

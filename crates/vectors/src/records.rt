@@ -1,9 +1,9 @@
 // Records, byte by byte.
-use console::hex::from_hex;
 use record::Record;
 use std::alloc::Global;
 use std::process::Abort;
 use std::test::Fail;
+use text::hex::from_hex;
 
 // A record's bytes, and the fields that they hold.
 #[derive(Clone, Copy)]

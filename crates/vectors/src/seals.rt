@@ -48,10 +48,7 @@ const NO_SEAL: &str = "000000000000000000000000000000000000000000000000000000000
 
 // A statement and a seal as one record, with an end of the line where it is printed.
 fn joined(heap: Global, statement: &str, seal: &str, end: &str) -> Result<String, Fail> {
-    let mut text = String::from_str(heap, statement)?;
-    text.push_str(seal)?;
-    text.push_str(end)?;
-    Ok(text)
+    Ok(format!(in heap; "{statement}{seal}{end}")?)
 }
 
 #[test]

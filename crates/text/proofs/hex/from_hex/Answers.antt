@@ -1,31 +1,13 @@
-use Rattle.std.proofs.Common.{vec_items, ap, ◌∙◌, arith}
-use Rattle.text.specs.Hex.{hex_bytes}
-use Rattle.text.proofs.HexText.{bad_high, bad_low, good_pair, odd_end, even_end}
+use Rattle.std.proofs.Common.{rules}
+use Rattle.text.proofs.HexText.{one_read}
 use Rattle.text.proofs.hex.from_hex.Goals as goal
 
-pub returns-in_default : goal.returns-in_default
-returns-in_default c =
-    bad_high c.as_bytes-digits.result.now (vec_items c.loop-i.bytes) c.loop-i.i (omega arith) c.loop-i.invariant c.in_default.ensures.value
-    ∙ ap hex_bytes c.as_bytes-digits.ensures.value
-
-pub returns-in_default-value : goal.returns-in_default-value
-returns-in_default-value c =
-    bad_low c.as_bytes-digits.result.now (vec_items c.loop-i.bytes) c.loop-i.i (omega arith) c.loop-i.invariant c.in_default-value.ensures.value
-    ∙ ap hex_bytes c.as_bytes-digits.ensures.value
-
-pub loop-i-preserved : goal.loop-i-preserved
-loop-i-preserved c =
-    let more = good_pair c.as_bytes-digits.result.now (vec_items c.loop-i.bytes) c.loop-i.i c.in-Some.high c.in-Some-value.low (omega arith) c.loop-i.invariant
-    c.in-Some.ensures.value c.in-Some-value.ensures.value in
-    let items = c.in_ok-push.ensures.items in
-    cc
-
-pub returns-then-digits-eq1 : goal.returns-then-digits-eq1
-returns-then-digits-eq1 c =
-    odd_end c.as_bytes-digits.result.now (vec_items c.loop-i.bytes) c.loop-i.i (omega arith) c.loop-i.invariant
-    ∙ ap hex_bytes c.as_bytes-digits.ensures.value
-
-pub returns : goal.returns
-returns c =
-    even_end c.as_bytes-digits.result.now (vec_items c.loop-i.bytes) c.loop-i.i (omega arith) c.loop-i.invariant
-    ∙ ap hex_bytes c.as_bytes-digits.ensures.value
+pub loop-digits-preserved : goal.loop-digits-preserved
+loop-digits-preserved c =
+    let steps = c.in-Some.ensures.steps in
+    let items = c.in_ok-push.ensures.items in (
+      search rules,
+      tt,
+      search rules,
+      rw items (one_read _ c.in-Some.digits.now _ c.loop-digits.bytes.items c.in-Some-byte.byte _ c.loop-digits.invariant.3 steps.1.0 c.in-Some-byte.ensures),
+    )

@@ -1,7 +1,7 @@
 //! Why a line is not done.
-use pool::Undelivered;
+use crate::words::Unreadable;
 use std::alloc::{AllocError, AllocFailed};
-use text::words::Unreadable;
+use std::fmt;
 
 /// Why a line is not done.
 #[derive(Clone, Copy)]
@@ -37,25 +37,17 @@ impl From<Unreadable> for Trouble {
     }
 }
 
-impl From<Undelivered> for Trouble {
-    fn from(why: Undelivered) -> Trouble {
-        match why {
-            Undelivered::NoSite => Trouble::NoSite,
-            Undelivered::NoMemory => Trouble::NoMemory,
-        }
-    }
-}
-
-impl Trouble {
-    /// The reason in words, behind the number of its line.
-    pub fn reason(&self) -> &'static str {
-        match self {
+/// What is said behind the number of the line.
+impl fmt::Display for Trouble {
+    fn fmt<W: fmt::Write>(&self, f: &mut fmt::Formatter<W>) -> fmt::Result {
+        let reason = match self {
+            Trouble::Unread(why) => return write!(f, "cannot be read: {why}"),
             Trouble::NoMemory => "there is no memory",
-            Trouble::Unread(why) => why.reason(),
             Trouble::NoPool => "there is no pool yet",
             Trouble::NoSite => "the pool has no such site",
             Trouble::NoOffice => "there is no such office yet",
             Trouble::NoWrite => "the office has no open write",
-        }
+        };
+        write!(f, "cannot be done: {reason}")
     }
 }
