@@ -7,14 +7,13 @@ use std::alloc::{AllocError, Global};
 /// How many calls a site gets before a fresh one takes its place.
 pub const LAP: u32 = 256;
 
-/// One case: a fresh site gets the first message once, and then each of the others, which have one size.
+/// One case: a fresh site gets the first message once, and then each of the others.
 #[derive(Drop)]
 pub struct Case {
     pub name: &'static str,
     pub f: u8,
     pub first: Vec<u8>,
-    pub messages: Vec<u8>,
-    pub size: usize,
+    pub messages: Vec<Vec<u8>>,
 }
 
 /// The key of site i is 32 bytes of value 16 + i, that of client i 32 bytes of value 32 + i.
@@ -30,9 +29,9 @@ fn client_key(i: u8) -> [u8; 32] {
 pub fn notary() -> KeyedNotary {
     let mut sites = [[0; 32]; MEMBERS];
     let mut clients = [[0; 32]; MEMBERS];
-    for i in 0..16u8 {
-        sites[usize::from(i)] = site_key(i);
-        clients[usize::from(i)] = client_key(i);
+    for (i, (site, client)) in (0..16).zip(sites.iter_mut().zip(clients.iter_mut())) {
+        *site = site_key(i);
+        *client = client_key(i);
     }
     KeyedNotary::new(&sites, &clients)
 }
@@ -64,12 +63,10 @@ fn certificate(heap: Global, f: u8, k: u32) -> Result<Vec<u8>, AllocError> {
 }
 
 /// The same message for each call of a lap.
-fn repeated(heap: Global, message: &[u8]) -> Result<Vec<u8>, AllocError> {
-    let mut bytes = Vec::new(heap);
-    for _ in 0..LAP {
-        bytes.extend_from_slice(message)?;
-    }
-    Ok(bytes)
+fn repeated(heap: Global, message: &[u8]) -> Result<Vec<Vec<u8>>, AllocError> {
+    (0..LAP)
+        .map(|_| Vec::from_slice(heap, message))
+        .try_collect(heap)
 }
 
 /// A request that waits, so that each reply is the GRANT that is out.
@@ -81,23 +78,18 @@ pub fn write_1(heap: Global, f: u8) -> Result<Case, AllocError> {
         f,
         first: request.to_vec(heap)?,
         messages: repeated(heap, &request)?,
-        size: 80,
     })
 }
 
 /// Certificates of one place after the other, each of which is done.
 pub fn write_2(heap: Global, f: u8) -> Result<Case, AllocError> {
-    let first = certificate(heap, f, 1)?;
-    let mut messages = Vec::new(heap);
-    for k in 2..LAP + 2 {
-        messages.extend_from_slice(certificate(heap, f, k)?.as_slice())?;
-    }
     Ok(Case {
         name: "WRITE-2",
         f,
-        size: first.len(),
-        first,
-        messages,
+        first: certificate(heap, f, 1)?,
+        messages: (2..LAP + 2)
+            .map(|k| certificate(heap, f, k))
+            .try_collect(heap)?,
     })
 }
 
@@ -110,6 +102,5 @@ pub fn read(heap: Global, f: u8) -> Result<Case, AllocError> {
         f,
         first: certificate(heap, f, 1)?,
         messages: repeated(heap, &question)?,
-        size: 80,
     })
 }
