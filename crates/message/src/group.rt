@@ -26,9 +26,9 @@ impl Group<'_> {
         requires within { IfSome found (λ k. k < records self.now.part.bytes.now) }
         ensures { MatchOption found (result ≡ Ok tt) (λ k. (e : CertificateFault) × F.post fault (self.now.part.first + k) e × (result ≡ Err e)) }
     {
-        match found {
-            Some(k) => Err(fault(self.part.index(k))),
-            None => Ok(()),
-        }
+        let Some(k) = found else {
+            return Ok(());
+        };
+        Err(fault(self.part.index(k)))
     }
 }

@@ -90,10 +90,10 @@ impl KeyedNotary {
     pub fn seal(&self, bytes: &[u8; RECORD]) -> [u8; RECORD]
         ensures { result ≡ sealed_if (key_for (sealer_at self.now.sites) (sealer_at self.now.clients) (statement_of bytes.now)) bytes.now }
     {
-        match self.key_for(&Statement::read(bytes)) {
-            Some(sealer) => seal_record(&sealer, bytes),
-            None => *bytes,
-        }
+        let Some(sealer) = self.key_for(&Statement::read(bytes)) else {
+            return *bytes;
+        };
+        seal_record(&sealer, bytes)
     }
 }
 
