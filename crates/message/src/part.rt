@@ -16,9 +16,6 @@ pub struct Part<'a> {
     pub first: usize,
 }
 
-/// A statement with nothing in it.
-pub const NOTHING: Statement = Statement::NOTHING;
-
 impl<'a> Part<'a> {
     /// The part of a message that has `n` records from index `first` on.
     pub(crate) fn of(message: &'a [u8], first: usize, n: usize) -> Part<'a>

@@ -21,13 +21,6 @@ impl Refusal {
         layer: 3,
     };
 
-    /// What a fault returns to the caller.
-    pub fn of(fault: SiteFault) -> Refusal
-        ensures { result ≡ refusal_of fault }
-    {
-        fault.into()
-    }
-
     /// The name of the refusal, by its number; no other number has one.
     pub fn name(&self) -> &'static str
         ensures { result.now ≡ name_of self.now.number }

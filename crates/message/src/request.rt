@@ -12,15 +12,7 @@ pub struct Request {
     pub operation: Operation,
 }
 
-impl Request {
-    /// The request that a statement makes.
-    pub fn of(says: &Statement) -> Request
-        ensures { result ≡ request_of says.now }
-    {
-        says.into()
-    }
-}
-
+/// The request that a statement makes.
 impl From<&Statement> for Request {
     ghost from_gives = { λ says request. request ≡ request_of says.now };
 

@@ -1,18 +1,10 @@
 // Claims, and likeness.
 ghost use Rattle.record.specs.Claims.{claim_of, alike};
 ghost use Rattle.record.specs.Kinds.{kind_number};
-ghost use Rattle.std.specs.Str.{bytes_eq};
 ghost use Rattle.std.specs.Prelude.{◌≡◌, ◌==◌};
 
-use crate::fields::{Claim, Operation, Statement};
+use crate::fields::{Claim, Statement};
 use crate::kind::Kind;
-
-// Whether two operations are the same sixteen bytes.
-pub fn same_operation(a: &Operation, b: &Operation) -> bool
-    ensures { result ≡ bytes_eq a.now b.now }
-{
-    a == b
-}
 
 impl Statement {
     // Whether the statement is of a kind.

@@ -1,5 +1,5 @@
 // The kinds of record.
-ghost use Rattle.record.specs.Kinds.{kind_number, kind_of, kind_word, known_kind};
+ghost use Rattle.record.specs.Kinds.{kind_number, kind_word, known_kind};
 ghost use Rattle.std.specs.Prelude.{◌≡◌, Some};
 
 use std::error::Error;
@@ -24,22 +24,6 @@ pub enum Kind {
     ShowGrant = 7,
     // asks a site for its current certificate
     ShowCert = 8,
-}
-
-impl Kind {
-    // The number of a kind, which is byte 0 of its records.
-    pub fn number(self) -> u8
-        ensures { result ≡ kind_number self }
-    {
-        self.into()
-    }
-
-    // The kind that a number stands for, if any.
-    pub fn of(number: u8) -> Option<Kind>
-        ensures { result ≡ kind_of number }
-    {
-        Kind::try_from(number).ok()
-    }
 }
 
 // A number that no kind has.
