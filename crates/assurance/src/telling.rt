@@ -12,6 +12,8 @@ use notary::Notary;
 use object::Object;
 use office::{Judged, Office, Ticket, Unspent};
 
+// The clauses of the office's own calls are said again, `same` too: these calls promise all that those do.
+
 /// CLOSE, at the office of a pool whose sites keep objects of the kind O.
 ///
 /// The answer is that of a write which stands in the pool's book, and is due to it there, in every life of the pool in which sound

@@ -12,7 +12,7 @@ pub trait Likeness<R> {
     fn counts(&self, reply: &R) -> bool
         ensures { result ≡ counted self.now reply.now };
 
-    // Whether these two replies are alike.
+    // Whether these two replies are alike: no `==`, since one kind of reply has several likenesses.
     fn alike(&self, one: &R, other: &R) -> bool
         ensures { result ≡ likened self.now one.now other.now };
 

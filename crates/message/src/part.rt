@@ -29,7 +29,7 @@ impl<'a> Part<'a> {
         }
     }
 
-    /// The index in the message of record `k` of the part.
+    /// The index in the message of record `k` of the part. A part that anybody made may begin anywhere, so the bound is asked here.
     pub(crate) fn index(&self, k: usize) -> usize
         requires { (self.now.first ≤ 38) × (k < records self.now.bytes.now) }
         ensures { result ≡ self.now.first + k }

@@ -21,7 +21,7 @@ impl Refusal {
         layer: 3,
     };
 
-    /// The name of the refusal, by its number; no other number has one.
+    /// The name of the refusal, by its number; no other number has one. By number, since whoever has a refusal has no fault any more.
     pub fn name(&self) -> &'static str
         ensures { result.now ≡ name_of self.now.number }
     {
@@ -52,7 +52,7 @@ impl Refusal {
     }
 }
 
-/// Layer 1: the message.
+/// Layer 1: the message. Here, and in the two conversions below, each fault has its numbers, which the rules of this project give it.
 impl From<MessageFault> for Refusal {
     ghost from_gives = { λ fault refusal. refusal ≡ refusal_of_message fault };
 

@@ -10,14 +10,14 @@ use crate::part::Part;
 use crate::records::statement_at;
 use record::{Place, Statement};
 
-/// Whether a START is above the target.
+/// Whether a START is above the target. A test of one field, and no order of statements.
 fn above(target: Place, start: &Statement) -> bool
     ensures { result ≡ nat_lt target start.now.place }
 {
     target < start.place
 }
 
-/// Whether a REQUEST's client is not above that of the one before.
+/// Whether a REQUEST's client is not above that of the one before. A test of one field, and no order of statements.
 fn not_rising(before: &Statement, request: &Statement) -> bool
     ensures { result ≡ nat_le request.now.client before.now.client }
 {

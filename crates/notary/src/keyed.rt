@@ -20,7 +20,8 @@ pub const MEMBERS: usize = 16;
 /// A key of a site or a client.
 pub type Key = [u8; 32];
 
-/// The notary that accepts a record when its seal is the HMAC-SHA-256 of its statement under its signer's key.
+/// The notary that accepts a record when its seal is the HMAC-SHA-256 of its statement under its signer's key. Arrays, since a notary
+/// allocates nothing.
 #[derive(Clone, Copy)]
 pub struct KeyedNotary {
     sites: [Sealer; MEMBERS],
@@ -55,7 +56,7 @@ fn difference(a: &Seal, b: &Seal) -> u8
     a.iter().zip(b).fold(0, |bits, (x, y)| bits | (x ^ y))
 }
 
-/// Whether two seals are equal.
+/// Whether two seals are equal. No `==`, which may stop at the first byte that differs.
 #[tactic(auto, using(crate::proofs::Equal::equal_seals))]
 fn same_seal(a: &Seal, b: &Seal) -> bool
     ensures { result ≡ bytes_eq a.now b.now }

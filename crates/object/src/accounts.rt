@@ -5,7 +5,7 @@ ghost use Rattle.object.specs.Accounts.{all_slots, slots_first, holding, less, m
 // The number of accounts.
 pub const ACCOUNTS: usize = 16;
 
-// What the accounts hold. The total keeps every sum far below what a `u32` holds.
+// What the accounts hold. The total keeps every sum far below what a `u32` holds. An array, since an object allocates nothing.
 #[derive(Clone, Copy)]
 pub struct Accounts {
     pub balances: [u32; ACCOUNTS],

@@ -133,6 +133,7 @@ impl Object for Slots {
         self.history.take_back()
     }
 
+    // Both kinds of object read so. A function for both would take the code, the test and the number of each, and be longer.
     fn look(&self, operation: &[u8; 16]) -> u64 {
         let [code, account, ..] = *operation;
         if code != BALANCE {

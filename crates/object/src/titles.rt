@@ -115,6 +115,7 @@ fn judge(
 ) -> Result<(), Fault>
     ensures { result ≡ judged titles.now act client title receiver }
 {
+    // a limit of the rules, and no length: a client needs no entry here to receive a title
     let receiver_exists = match act {
         Act::Issue | Act::Transfer => receiver <= LAST_RECEIVER,
         Act::Surrender => true,
@@ -199,6 +200,7 @@ impl Object for Titles {
         self.history.take_back()
     }
 
+    // Both kinds of object read so. A function for both would take the code, the test and the number of each, and be longer.
     fn look(&self, operation: &[u8; 16]) -> u64 {
         let [code, title, ..] = *operation;
         if code != STATE {

@@ -19,7 +19,7 @@ fn later(one: &Statement, other: &Statement) -> bool
 }
 
 impl Slot {
-    /// Whether this slot's reply is later than the other's. Any reply is later than none.
+    /// Whether this slot's reply is later than the other's. Any reply is later than none. No `Ord`, as for the statements themselves.
     pub(crate) fn is_later(&self, other: &Slot) -> bool
         ensures { result ≡ later_slot self.now other.now }
     {

@@ -42,6 +42,7 @@ impl<L: Likening> Likeness<Slot> for OfKind<L> {
         reply.holds(self.kind)
     }
 
+    // no `==`: one kind of slot has several likenesses
     fn alike(&self, one: &Slot, other: &Slot) -> bool {
         match (&one.filed, &other.filed) {
             (Some(one), Some(other)) => self.likening.likens(&one.statement, &other.statement),
@@ -66,6 +67,7 @@ impl Likeness<Slot> for Heard {
         reply.filed.is_some()
     }
 
+    // no `==`: here any two replies are alike
     fn alike(&self, _one: &Slot, _other: &Slot) -> bool {
         true
     }

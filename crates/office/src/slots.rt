@@ -8,7 +8,7 @@ pub struct Slot {
     pub filed: Option<Record>,
 }
 
-/// A slot for each site.
+/// A slot for each site. An array, since an office allocates nothing.
 #[derive(Clone, Copy)]
 pub struct Slots {
     pub at: [Slot; SITES],

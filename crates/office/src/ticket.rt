@@ -48,7 +48,7 @@ impl Drop for Ticket {
     }
 }
 
-/// What BEGIN returns: the ticket, and how many bytes it wrote.
+/// What BEGIN returns: the ticket, and how many bytes it wrote into the caller's output.
 pub struct Begun {
     pub ticket: Ticket,
     pub count: usize,

@@ -21,7 +21,7 @@ pub enum Verdict {
     Wait,
 }
 
-/// A verdict, and how many bytes the call wrote.
+/// A verdict, and how many bytes the call wrote into the caller's output.
 #[derive(Clone, Copy, PartialEq, Eq, Debug)]
 pub struct Judged {
     pub verdict: Verdict,

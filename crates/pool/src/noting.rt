@@ -6,7 +6,7 @@ use crate::entry::Entry;
 use message::Refusal;
 
 impl Entry {
-    /// The entry of a call.
+    /// The entry of a call: made of four values, and converted from none of them.
     pub(crate) fn of(
         site: u8,
         message: Vec<u8>,

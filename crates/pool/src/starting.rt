@@ -20,6 +20,7 @@ impl<N: Notary + Copy, O: Object + Copy> Pool<N, O> {
     {
         let fit = fitted(f, 0).f;
         let mut sites = Vec::new(heap);
+        // a loop over the sites' numbers: a closure could not stop where memory runs out
         for number in 0..3 * fit + 1 {
             sites.push(Site::new(fit, number, notary, object))?;
         }

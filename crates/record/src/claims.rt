@@ -7,7 +7,7 @@ use crate::fields::{Claim, Statement};
 use crate::kind::Kind;
 
 impl Statement {
-    // Whether the statement is of a kind.
+    // Whether the statement is of a kind. It is told by byte 0, since any 80 bytes make a record, also where that byte names no kind.
     pub fn is(&self, kind: Kind) -> bool
         ensures { result ≡ (self.now.kind == kind_number kind) }
     {
@@ -27,7 +27,7 @@ impl Statement {
         }
     }
 
-    // Whether two statements are alike but for the signer.
+    // Whether two statements are alike but for the signer: no equality, which would look at the signer too.
     pub fn alike(&self, other: &Statement) -> bool
         ensures { result ≡ alike self.now other.now }
     {

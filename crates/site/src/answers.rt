@@ -7,7 +7,8 @@ use message::{Request, SiteFault};
 use record::limits::HIGHEST_ROUND;
 use record::{Claim, Operation, Place, Round, Statement};
 
-/// A request beside its client's last write: the stored ANSWER where it is the same request, none where it is new.
+/// A request beside its client's last write: the stored ANSWER where it is the same request, none where it is new. An option in a
+/// result, since a refusal, an answer and a new request are three outcomes, and `?` takes the first.
 pub fn stored(
     site: u8,
     last: &Option<Done>,

@@ -6,7 +6,7 @@ ghost use Rattle.std.specs.Prelude.{◌≡◌, if◌then◌else◌, Ok, Err};
 use crate::figures::{Figures, HIGHEST_F};
 use message::Refusal;
 
-/// Whether f lies from 1 to 5, and the number from 0 to 3f.
+/// Whether f lies from 1 to 5, and the number from 0 to 3f. An office's figures have another bound, so each has its own test.
 fn fit(f: u8, number: u8) -> bool
     ensures { result ≡ fit_figures f number }
 {

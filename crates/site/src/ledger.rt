@@ -7,7 +7,7 @@ use crate::state::{Backup, CERTIFICATE, Current, Done, Ledger};
 use record::Claim;
 use record::limits::MARK;
 
-/// What a write was answered, and whether it called the object.
+/// What a write was answered, and whether it called the object. There is an answer either way, so that it is no `Option`.
 #[derive(Clone, Copy)]
 pub(crate) struct Performed {
     pub(crate) answer: u64,

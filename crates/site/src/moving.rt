@@ -70,6 +70,7 @@ impl State {
             };
             self.settlement = Some(made);
         }
+        // the round's number, and no index
         self.round += 1;
     }
 }

@@ -68,6 +68,7 @@ impl<N: Notary, O: Object> Site<N, O> {
         board: &mut [u8],
     ) -> Result<usize, Refusal>
         ensures leaves { Leaves O.rules (call_of O.rules self.old.figures.f self.old.figures.number (N.means self.old.notary) self.old.replica.state (O.holds self.old.replica.object) message.now output.old board.old) self.new.replica.state (O.holds self.new.replica.object) output.new board.new result }
+        // that notary and figures stay is what the call promises, and no fact about a site
         ensures same { (self.new.notary ≡ self.old.notary) × (self.new.figures ≡ self.old.figures) }
         ensures lives { InEveryLife O.rules self.old.figures.f self.old.figures.number (N.means self.old.notary) self.old.replica.state (O.holds self.old.replica.object) message.now output.old board.old self.new.replica.state (O.holds self.new.replica.object) output.new result }
     {

@@ -16,7 +16,7 @@ pub struct Done {
     pub answer: u64,
 }
 
-/// The claim done last with its certificate, seals included; zeros follow the GRANTs.
+/// The claim done last with its certificate, seals included; zeros follow the GRANTs. An array, since a site allocates nothing.
 #[derive(Clone, Copy)]
 pub struct Current {
     pub claim: Claim,
@@ -29,7 +29,7 @@ pub struct Backup {
     pub current: Option<Current>,
     /// the client's last-done entry
     pub entry: Option<Done>,
-    /// whether the write called the object
+    /// whether the write called the object; the rest of the backup counts either way
     pub called: bool,
 }
 
@@ -39,7 +39,7 @@ pub struct Ledger {
     /// how many there are
     pub place: Place,
     pub current: Option<Current>,
-    /// what was done last for each client
+    /// what was done last for each client; an array, since a site allocates nothing
     pub done: [Option<Done>; 16],
     pub backup: Option<Backup>,
 }

@@ -12,6 +12,7 @@ use notary::Notary;
 use record::limits::RECORD;
 use record::{Operation, Statement};
 
+// `same` is said of each call of an office: that notary and figures stay is what the call promises, and no fact about an office.
 impl<N: Notary> Office<N> {
     /// BEGIN: writes the REQUEST for a write under the next number, its seal still to be filled in, and gives the ticket.
     pub fn begin(

@@ -8,9 +8,10 @@ use crate::office::Office;
 use crate::ticket::{Ticket, Unspent};
 use notary::Notary;
 
+// `same` is said of each call of an office: that notary and figures stay is what the call promises, and no fact about an office.
 impl<N: Notary> Office<N> {
     /// CLOSE: the answer to the write, which ends, once the verdict is DONE; else the ticket comes back.
-    /// Over a sound desk the answer is that of a quorum.
+    /// The answer is that of a quorum.
     pub fn close(&mut self, ticket: Ticket) -> Result<u64, Unspent>
         ensures desk { self.new.desk ≡ (close_call self.old.figures.f self.old.figures.client self.old.desk ticket).desk }
         ensures result { result ≡ (close_call self.old.figures.f self.old.figures.client self.old.desk ticket).result }

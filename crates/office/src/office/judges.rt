@@ -40,7 +40,7 @@ impl<N: Notary> Office<N> {
 
     /// JUDGE: the verdict over the replies to the write. CERTIFY, BACK and CLASH write their records.
     ///
-    /// DONE is given exactly where a quorum of ANSWERs is alike, and WAIT only where no quorum is heard. Over a sound desk no two quorums
+    /// DONE is given exactly where a quorum of ANSWERs is alike, and WAIT only where no quorum is heard. No two quorums
     /// give two answers; the answer of DONE is that of a quorum; what CERTIFY and BACK write passes the checks of every site as a WRITE-2;
     /// what CLASH writes passes them as a RESOLVE with any good REQUEST behind it; and the site of CATCH has the latest reply.
     pub fn judge(&self, output: &mut [u8], board: &mut [u8]) -> Result<Judged, Refusal>
@@ -66,7 +66,7 @@ impl<N: Notary> Office<N> {
 
     /// The verdict over the replies to the question: DONE, CATCH or WAIT. It writes nothing.
     ///
-    /// DONE is given exactly where a quorum of READ-ANSWERs is alike, and WAIT only where no quorum is heard. Over a sound desk no
+    /// DONE is given exactly where a quorum of READ-ANSWERs is alike, and WAIT only where no quorum is heard. No
     /// two quorums give two answers, the answer of DONE is that of a quorum, and the site of CATCH has the latest reply.
     pub fn judge_reading(&self, output: &[u8], board: &mut [u8]) -> Result<Judged, Refusal>
         ensures leaves { Leaves (judge_reading_call self.now.figures.f self.now.desk output.now board.old) self.now.desk output.now board.new result }

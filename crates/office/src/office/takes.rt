@@ -13,6 +13,7 @@ use notary::Notary;
 use record::limits::RECORD;
 use record::{Record, Statement};
 
+// `same` is said of each call of an office: that notary and figures stay is what the call promises, and no fact about an office.
 impl<N: Notary> Office<N> {
     /// SHORT, LENGTH, KIND and FIELD, then MIXED and UNVOUCHED: the bytes of a reply that passes.
     fn vouched<'a>(
