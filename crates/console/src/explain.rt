@@ -1,54 +1,26 @@
 //! The command `explain`: what a message is, or why it is refused.
-ghost use Rattle.std.specs.Prelude.{true};
-
 use crate::complaint::{Complaint, told};
 use crate::keys::read_keys;
 use message::limits::{BOARD, LEAST_ROOM};
-use message::{Message, Refusal, SiteFault, check};
-use notary::Notary;
+use message::{Refusal, check};
+use notary::{Notary, TrustingNotary};
 use record::limits::RECORD;
 use record::{Kind, Record};
 use std::alloc::{AllocError, Global};
+use std::fmt;
 use text::hex::{Hex, from_hex};
 use text::words::Words;
 
-/// A notary that judges no seals: it accepts every record.
+/// The word for a record's kind.
 #[derive(Clone, Copy)]
-struct Unjudged;
+struct KindShown(u8);
 
-impl Notary for Unjudged {
-    ghost means = { λ _ _. true };
-
-    fn vouches(&self, _bytes: &[u8; RECORD]) -> bool {
-        true
-    }
-}
-
-/// The name of a message's form.
-fn form_name(message: &Message<'_>) -> &'static str {
-    match message {
-        Message::Write1 { .. } => "WRITE-1",
-        Message::Read { .. } => "READ",
-        Message::Write2 { .. } => "WRITE-2",
-        Message::Resolve { .. } => "RESOLVE",
-        Message::Round { .. } => "ROUND",
-        Message::ShowGrant { .. } => "SHOW-GRANT",
-        Message::ShowCert => "SHOW-CERT",
-    }
-}
-
-/// The name of a record's kind.
-fn kind_name(number: u8) -> &'static str {
-    match Kind::of(number) {
-        Some(Kind::Request) => "REQUEST",
-        Some(Kind::Grant) => "GRANT",
-        Some(Kind::Question) => "QUESTION",
-        Some(Kind::Answer) => "ANSWER",
-        Some(Kind::ReadAnswer) => "READ-ANSWER",
-        Some(Kind::Start) => "START",
-        Some(Kind::ShowGrant) => "SHOW-GRANT",
-        Some(Kind::ShowCert) => "SHOW-CERT",
-        None => "unknown kind",
+impl fmt::Display for KindShown {
+    fn fmt<W: fmt::Write>(&self, f: &mut fmt::Formatter<W>) -> fmt::Result {
+        match Kind::try_from(self.0) {
+            Ok(kind) => write!(f, "{kind}"),
+            Err(_) => f.write_str("unknown kind"),
+        }
     }
 }
 
@@ -62,7 +34,7 @@ fn push_record(out: &mut String, index: usize, bytes: &[u8]) -> Result<(), Alloc
         seal,
     } = Record::read(&raw);
     let kind = says.kind;
-    let name = kind_name(kind);
+    let name = KindShown(kind);
     let signer = says.signer;
     let client = says.client;
     write!(
@@ -89,13 +61,13 @@ fn judged<N: Notary>(heap: Global, f: u8, notary: &N, bytes: &[u8]) -> Result<St
     let mut board = [0; BOARD];
     match check(f, notary, bytes, LEAST_ROOM, &mut board) {
         Ok(found) => {
-            writeln!(out, "{}", form_name(&found))?;
+            writeln!(out, "{found}")?;
             for (index, record) in bytes.chunks(RECORD).enumerate() {
                 push_record(&mut out, index, record)?;
             }
         }
         Err(fault) => {
-            let refusal = Refusal::of(SiteFault::Certificate(fault));
+            let refusal = Refusal::from(fault);
             let name = refusal.name();
             let Refusal {
                 number,
@@ -137,7 +109,7 @@ impl Sent {
 
 /// What a message is, where no seals are judged.
 fn unsealed(heap: Global, f: &str, message: &str) -> Result<String, Complaint> {
-    Sent::read(heap, f, message)?.judged_by(heap, &Unjudged)
+    Sent::read(heap, f, message)?.judged_by(heap, &TrustingNotary)
 }
 
 /// What a message is, by the keys in the text of a key file.

@@ -1,7 +1,8 @@
 //! Sealing a record under a key, and judging a seal.
 ghost use Rattle.notary.specs.Keys.{keyed, sealed_record};
 ghost use Rattle.sha256.specs.Mac.{hmac_sha_256};
-ghost use Rattle.std.specs.Prelude.{◌≡◌, replicate};
+ghost use Rattle.std.specs.Prelude.{◌≡◌, [], ◌∷◌, ◌++◌, IfOk, replicate, string_bytes};
+ghost use Rattle.text.specs.Hex.{hex_text};
 
 use crate::complaint::{Complaint, exactly, told};
 use notary::{Key, KeyedNotary, MEMBERS, Notary, seal_record};
@@ -38,11 +39,18 @@ fn read(heap: Global, key: &str, bytes: &str) -> Result<Given, Complaint> {
     Ok(Given { key, bytes })
 }
 
+/// The line of the record with its seal filled in under a key.
+pub fn sealed_line(heap: Global, key: &Key, bytes: &[u8; 80]) -> Result<String, AllocError>
+    ensures { IfOk result (λ line. string_bytes line ≡ hex_text (sealed_record hmac_sha_256 key.now bytes.now) ++ 10 ∷ []) }
+{
+    let record = sealed(key, bytes);
+    format!(in heap; "{}\n", Hex(&record))
+}
+
 /// The record of two words with its seal filled in.
 fn sealed_text(heap: Global, key: &str, bytes: &str) -> Result<String, Complaint> {
     let given = read(heap, key, bytes)?;
-    let record = sealed(&given.key, &given.bytes);
-    Ok(format!(in heap; "{}\n", Hex(&record))?)
+    Ok(sealed_line(heap, &given.key, &given.bytes)?)
 }
 
 /// Whether the record of two words has a good seal.

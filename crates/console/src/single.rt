@@ -1,10 +1,10 @@
 //! Titles alone and slots alone, without a pool.
 use crate::bench::{Answered, Bench};
 use crate::step::Step;
+use object::Object;
 use object::slots::Slots;
 use object::titles::Titles;
 use std::alloc::AllocError;
-use text::deed::Deed;
 use text::hex::Hex;
 use text::line::Line;
 use text::meaning::{LookAnswer, WriteAnswer};
@@ -19,6 +19,46 @@ pub struct Singles {
     questions: u64,
 }
 
+/// Does a step on an object of a kind, and adds the line that answers it.
+fn take_step<O: Object>(
+    bench: &mut Bench<O>,
+    kept: Kept,
+    step: &Step,
+    nonce: u64,
+    out: &mut String,
+) -> Result<(), AllocError> {
+    match step {
+        Step::Write { client, deed } => {
+            let Answered { answer, asked } = bench.write(*client, &deed.operation());
+            let means = WriteAnswer { kept, answer };
+            let record = asked.unsealed();
+            writeln!(
+                out,
+                "client {client} {deed}: {answer}, {means}; record {}",
+                Hex(&record)
+            )
+        }
+        Step::Look { client, deed } => {
+            let Answered { answer, asked } = bench.look(*client, &deed.operation(), nonce);
+            let means = LookAnswer { kept, answer };
+            let record = asked.unsealed();
+            writeln!(
+                out,
+                "client {client} {deed}: {answer}, {means}; record {}",
+                Hex(&record)
+            )
+        }
+        Step::TakeBack => {
+            let done = if bench.take_back() {
+                "the last write is taken back"
+            } else {
+                "there is nothing to take back"
+            };
+            writeln!(out, "{kept}: {done}")
+        }
+    }
+}
+
 impl Singles {
     /// Both objects fresh.
     pub fn new() -> Singles {
@@ -31,67 +71,16 @@ impl Singles {
 
     /// Does the step that a line asks for behind the object's name.
     pub fn command(&mut self, kept: Kept, line: &mut Line<'_>) -> Result<(), Trouble> {
-        match Step::read(kept, &mut line.words)? {
-            Step::Write { client, deed } => self.write(kept, client, &deed, &mut line.answer)?,
-            Step::Look { client, deed } => self.look(kept, client, &deed, &mut line.answer)?,
-            Step::TakeBack => self.take_back(kept, &mut line.answer)?,
+        let step = Step::read(kept, &mut line.words)?;
+        if let Step::Look { .. } = step {
+            self.questions = self.questions.saturating_add(1);
+        }
+        let nonce = self.questions;
+        let out = &mut line.answer;
+        match kept {
+            Kept::Titles => take_step(&mut self.titles, kept, &step, nonce, out)?,
+            Kept::Slots => take_step(&mut self.slots, kept, &step, nonce, out)?,
         }
         Ok(())
-    }
-
-    fn write(
-        &mut self,
-        kept: Kept,
-        client: u8,
-        deed: &Deed,
-        out: &mut String,
-    ) -> Result<(), AllocError> {
-        let operation = deed.operation();
-        let Answered { answer, asked } = match kept {
-            Kept::Titles => self.titles.write(client, &operation),
-            Kept::Slots => self.slots.write(client, &operation),
-        };
-        let means = WriteAnswer { kept, answer };
-        let record = asked.unsealed();
-        writeln!(
-            out,
-            "client {client} {deed}: {answer}, {means}; record {}",
-            Hex(&record)
-        )
-    }
-
-    fn look(
-        &mut self,
-        kept: Kept,
-        client: u8,
-        deed: &Deed,
-        out: &mut String,
-    ) -> Result<(), AllocError> {
-        let operation = deed.operation();
-        self.questions = self.questions.saturating_add(1);
-        let Answered { answer, asked } = match kept {
-            Kept::Titles => self.titles.look(client, &operation, self.questions),
-            Kept::Slots => self.slots.look(client, &operation, self.questions),
-        };
-        let means = LookAnswer { kept, answer };
-        let record = asked.unsealed();
-        writeln!(
-            out,
-            "client {client} {deed}: {answer}, {means}; record {}",
-            Hex(&record)
-        )
-    }
-
-    fn take_back(&mut self, kept: Kept, out: &mut String) -> Result<(), AllocError> {
-        let taken = match kept {
-            Kept::Titles => self.titles.take_back(),
-            Kept::Slots => self.slots.take_back(),
-        };
-        let done = if taken {
-            "the last write is taken back"
-        } else {
-            "there is nothing to take back"
-        };
-        writeln!(out, "{kept}: {done}")
     }
 }

@@ -28,18 +28,6 @@ impl<T: fmt::Display> fmt::Display for Accepted<T> {
     }
 }
 
-/// The name of a verdict.
-pub fn verdict_name(verdict: &Verdict) -> &'static str {
-    match verdict {
-        Verdict::Done { .. } => "DONE",
-        Verdict::Certify => "CERTIFY",
-        Verdict::Back => "BACK",
-        Verdict::Clash => "CLASH",
-        Verdict::Catch { .. } => "CATCH",
-        Verdict::Wait => "WAIT",
-    }
-}
-
 /// A verdict with what it gives: an answer, a site, or the records that go with it.
 #[derive(Clone, Copy)]
 pub struct JudgedShown<'a> {
@@ -49,12 +37,12 @@ pub struct JudgedShown<'a> {
 
 impl fmt::Display for JudgedShown<'_> {
     fn fmt<W: fmt::Write>(&self, f: &mut fmt::Formatter<W>) -> fmt::Result {
-        let name = verdict_name(&self.judged.verdict);
-        match self.judged.verdict {
-            Verdict::Done { answer } => write!(f, "{name} {answer}"),
-            Verdict::Catch { site } => write!(f, "{name} {site}"),
-            Verdict::Wait => f.write_str(name),
-            _ => write!(f, "{name} {}", Hex(self.written)),
+        let verdict = self.judged.verdict;
+        match verdict {
+            Verdict::Done { answer } => write!(f, "{verdict} {answer}"),
+            Verdict::Catch { site } => write!(f, "{verdict} {site}"),
+            Verdict::Wait => write!(f, "{verdict}"),
+            _ => write!(f, "{verdict} {}", Hex(self.written)),
         }
     }
 }

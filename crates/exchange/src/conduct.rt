@@ -1,49 +1,61 @@
 //! What the sites of a rehearsal do: some are down, and some lie.
 use std::fmt;
 
-/// Whether a site can be reached.
-#[derive(Clone, Copy, PartialEq, Eq)]
-pub enum Reach {
-    Up,
-    Down,
-}
-
-impl fmt::Display for Reach {
-    fn fmt<W: fmt::Write>(&self, f: &mut fmt::Formatter<W>) -> fmt::Result {
-        f.write_str(match self {
-            Reach::Up => "is up",
-            Reach::Down => "is down",
-        })
-    }
-}
-
-/// Whether a site does as the rules say.
-#[derive(Clone, Copy, PartialEq, Eq)]
-pub enum Honesty {
-    Honest,
-    Lying,
-}
-
-impl fmt::Display for Honesty {
-    fn fmt<W: fmt::Write>(&self, f: &mut fmt::Formatter<W>) -> fmt::Result {
-        f.write_str(match self {
-            Honesty::Honest => "is honest",
-            Honesty::Lying => "lies: it grants whatever it is asked",
-        })
-    }
-}
-
 /// What a site does.
 #[derive(Clone, Copy)]
 pub struct Conduct {
-    pub reach: Reach,
-    pub honesty: Honesty,
+    /// it can be reached
+    pub is_up: bool,
+    /// it does as the rules say
+    pub is_honest: bool,
+}
+
+/// What becomes of a site.
+#[derive(Clone, Copy)]
+pub enum Change {
+    Down,
+    Up,
+    Lying,
+    Honest,
 }
 
 impl Conduct {
     /// As each site begins.
     pub const SOUND: Conduct = Conduct {
-        reach: Reach::Up,
-        honesty: Honesty::Honest,
+        is_up: true,
+        is_honest: true,
     };
+
+    /// What it does after a change.
+    pub fn after(self, change: Change) -> Conduct {
+        match change {
+            Change::Down => Conduct {
+                is_up: false,
+                ..self
+            },
+            Change::Up => Conduct {
+                is_up: true,
+                ..self
+            },
+            Change::Lying => Conduct {
+                is_honest: false,
+                ..self
+            },
+            Change::Honest => Conduct {
+                is_honest: true,
+                ..self
+            },
+        }
+    }
+}
+
+impl fmt::Display for Change {
+    fn fmt<W: fmt::Write>(&self, f: &mut fmt::Formatter<W>) -> fmt::Result {
+        f.write_str(match self {
+            Change::Down => "is down",
+            Change::Up => "is up",
+            Change::Lying => "lies: it grants whatever it is asked",
+            Change::Honest => "is honest",
+        })
+    }
 }

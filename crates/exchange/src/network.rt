@@ -1,6 +1,6 @@
 //! Sending to sites: those that are down do not hear, and those that lie grant whatever they are asked.
 use crate::buffers::Buffers;
-use crate::conduct::{Honesty, Reach};
+use crate::conduct::Conduct;
 use crate::rehearsal::Rehearsal;
 use crate::replies::Reply;
 use record::limits::RECORD;
@@ -30,26 +30,18 @@ impl Rehearsal {
         }
     }
 
-    /// Whether a site is not down.
-    fn is_up(&self, site: u8) -> bool {
+    /// What a site does.
+    fn conduct(&self, site: u8) -> Conduct {
         match self.sites.get(usize::from(site)) {
-            Some(conduct) => conduct.reach == Reach::Up,
-            None => false,
-        }
-    }
-
-    /// Whether a site lies.
-    fn lies(&self, site: u8) -> bool {
-        match self.sites.get(usize::from(site)) {
-            Some(conduct) => conduct.honesty == Honesty::Lying,
-            None => false,
+            Some(conduct) => *conduct,
+            None => Conduct::SOUND,
         }
     }
 
     /// The sites that can be reached.
     pub(crate) fn reached(&self, heap: Global) -> Result<Vec<u8>, AllocError> {
         (0..self.count())
-            .filter(|site| self.is_up(*site))
+            .filter(|site| self.conduct(*site).is_up)
             .collect(heap)
     }
 
@@ -58,7 +50,7 @@ impl Rehearsal {
         let state = self.scenario.pool.as_ref()?.state(site)?;
         let raw = <[u8; RECORD]>::try_from(message).ok()?;
         let asked = Statement::read(&raw);
-        if !self.lies(site) || asked.kind != Kind::Request.number() {
+        if self.conduct(site).is_honest || !asked.is(Kind::Request) {
             return None;
         }
         let claim = Claim {
@@ -115,7 +107,7 @@ impl Rehearsal {
     }
 
     /// Shows each of these records to an office; what it refuses is passed over.
-    pub(crate) fn take_all(&mut self, client: u8, replies: &Replies) -> Result<(), Trouble> {
+    pub(crate) fn take_all(&mut self, client: u8, replies: &[[u8; RECORD]]) -> Result<(), Trouble> {
         let seat = self.seats.seat(client)?;
         for raw in replies {
             let mut buffers = Buffers::new();

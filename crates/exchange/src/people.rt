@@ -1,8 +1,7 @@
 //! The commands for people: whole exchanges, sites that come and go, and whether all sites agree.
-use crate::conduct::{Honesty, Reach};
+use crate::conduct::Change;
 use crate::rehearsal::Rehearsal;
 use record::{Claim, Operation};
-use scenario::states::stage_name;
 use site::state::State;
 use std::fmt;
 use text::deed::Deed;
@@ -121,27 +120,13 @@ impl Rehearsal {
         Ok(site)
     }
 
-    /// `down SITE` and `up SITE`: a site can no longer be reached, or can be reached again.
-    pub(crate) fn set_reach(&mut self, reach: Reach, line: &mut Line<'_>) -> Result<(), Trouble> {
+    /// `down SITE`, `up SITE`, `lie SITE` and `honest SITE`.
+    pub(crate) fn change(&mut self, change: Change, line: &mut Line<'_>) -> Result<(), Trouble> {
         let site = self.known_site(&mut line.words)?;
         if let Some(conduct) = self.sites.get_mut(usize::from(site)) {
-            conduct.reach = reach;
+            *conduct = conduct.after(change);
         }
-        writeln!(line.answer, "site {site} {reach}")?;
-        Ok(())
-    }
-
-    /// `lie SITE` and `honest SITE`: a site grants whatever it is asked, or does as the rules say.
-    pub(crate) fn set_honesty(
-        &mut self,
-        honesty: Honesty,
-        line: &mut Line<'_>,
-    ) -> Result<(), Trouble> {
-        let site = self.known_site(&mut line.words)?;
-        if let Some(conduct) = self.sites.get_mut(usize::from(site)) {
-            conduct.honesty = honesty;
-        }
-        writeln!(line.answer, "site {site} {honesty}")?;
+        writeln!(line.answer, "site {site} {change}")?;
         Ok(())
     }
 
@@ -161,7 +146,7 @@ impl Rehearsal {
         let mut agree = true;
         for site in 0..self.count() {
             if let Some(state) = pool.state(site) {
-                let stage = stage_name(&state.stage);
+                let stage = state.stage;
                 let round = state.round;
                 let place = state.ledger.place;
                 writeln!(

@@ -1,6 +1,5 @@
 //! A whole reading, and bringing late sites up by what the others were handed.
 use crate::buffers::Buffers;
-use crate::calls::verdict_name;
 use crate::rehearsal::Rehearsal;
 use crate::turn::Turn;
 use office::Verdict;
@@ -19,9 +18,9 @@ const TURNS: u8 = 3;
 fn moves(entry: &Entry, q: usize) -> bool {
     let message = entry.message.as_slice();
     entry.result.is_ok()
-        && match message.first().and_then(|kind| Kind::of(*kind)) {
-            Some(Kind::Start) => true,
-            Some(Kind::Grant) => message.len() / RECORD == q,
+        && match message.first().map(|kind| Kind::try_from(*kind)) {
+            Some(Ok(Kind::Start)) => true,
+            Some(Ok(Kind::Grant)) => message.len() / RECORD == q,
             _ => false,
         }
 }
@@ -50,7 +49,7 @@ impl Rehearsal {
         let Ok(found) = office.judge_reading(&buffers.output, &mut buffers.board) else {
             return Err(Trouble::NoOffice);
         };
-        writeln!(line.answer, "  verdict {}", verdict_name(&found.verdict))?;
+        writeln!(line.answer, "  verdict {}", found.verdict)?;
         match found.verdict {
             Verdict::Done { answer } => {
                 let kept = self.scenario.pool()?.kept();

@@ -1,7 +1,7 @@
 //! A rehearsal: a pool, its offices, and the commands that drive them.
 use crate::buffers::Buffers;
 use crate::calls::{Accepted, Given, JudgedShown};
-use crate::conduct::{Conduct, Honesty, Reach};
+use crate::conduct::{Change, Conduct};
 use crate::seats::Seats;
 use message::Refusal;
 use office::Judged;
@@ -185,10 +185,10 @@ impl Rehearsal {
             "write" => self.write(line),
             "read" => self.read(line),
             "again" => self.again(line),
-            "down" => self.set_reach(Reach::Down, line),
-            "up" => self.set_reach(Reach::Up, line),
-            "lie" => self.set_honesty(Honesty::Lying, line),
-            "honest" => self.set_honesty(Honesty::Honest, line),
+            "down" => self.change(Change::Down, line),
+            "up" => self.change(Change::Up, line),
+            "lie" => self.change(Change::Lying, line),
+            "honest" => self.change(Change::Honest, line),
             "resend" => self.resend(line),
             "compare" => self.compare(line),
             _ => self.scenario.command(word, line),

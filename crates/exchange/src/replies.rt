@@ -42,14 +42,11 @@ impl fmt::Display for Said<'_> {
         let place = self.0.place;
         let answer = self.0.answer;
         let about = Where(self.0);
-        match Kind::of(self.0.kind) {
-            Some(Kind::Grant) => write!(f, "GRANT to {about}"),
-            Some(Kind::Answer) => write!(f, "ANSWER {answer} to {about}"),
-            Some(Kind::ReadAnswer) => write!(
-                f,
-                "READ-ANSWER {answer}, round {round}, place {place}"
-            ),
-            Some(Kind::Start) => write!(f, "START, round {round}, place {place}"),
+        match Kind::try_from(self.0.kind) {
+            Ok(Kind::Grant) => write!(f, "GRANT to {about}"),
+            Ok(Kind::Answer) => write!(f, "ANSWER {answer} to {about}"),
+            Ok(Kind::ReadAnswer) => write!(f, "READ-ANSWER {answer}, round {round}, place {place}"),
+            Ok(Kind::Start) => write!(f, "START, round {round}, place {place}"),
             _ => f.write_str("something else"),
         }
     }

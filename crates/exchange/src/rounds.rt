@@ -16,14 +16,12 @@ const SETTLED: u32 = 17;
 /// The records of one kind among replies, as far as a quorum of them.
 fn quorum_of(
     heap: Global,
-    replies: &Replies,
+    replies: &[[u8; RECORD]],
     kind: Kind,
     q: usize,
 ) -> Result<Option<Vec<u8>>, AllocError> {
     let mut message = Vec::new(heap);
-    let alike = replies
-        .iter()
-        .filter(|raw| Statement::read(*raw).kind == kind.number());
+    let alike = replies.iter().filter(|raw| Statement::read(*raw).is(kind));
     for raw in alike.take(q) {
         message.extend_from_slice(raw)?;
     }
@@ -34,14 +32,14 @@ fn quorum_of(
 /// The GRANTs among replies that make the claim of the first, as far as a quorum of them.
 fn certificate_of(
     heap: Global,
-    replies: &Replies,
+    replies: &[[u8; RECORD]],
     q: usize,
 ) -> Result<Option<Vec<u8>>, AllocError> {
     let Some(first) = replies.first() else {
         return Ok(None);
     };
     let claim = Statement::read(first).claim();
-    let same = replies
+    let same: Replies = replies
         .iter()
         .copied()
         .filter(|raw| Statement::read(raw).claim() == claim)
@@ -107,10 +105,8 @@ impl Rehearsal {
             let certificate = self.certificate_at(line.heap, target)?;
             message.extend_from_slice(certificate.as_slice())?;
         }
-        for client in 0..16u8 {
-            if let Some(raw) = self.open_request(client) {
-                message.extend_from_slice(&raw)?;
-            }
+        for raw in (0..16u8).filter_map(|client| self.open_request(client)) {
+            message.extend_from_slice(&raw)?;
         }
         writeln!(
             line.answer,

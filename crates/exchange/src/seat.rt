@@ -4,7 +4,7 @@ ghost use Rattle.notary.specs.Keys.{sealed_under};
 ghost use Rattle.office.specs.Calls.{clear_desk, Leaves, begin_call, query_call, take_call};
 ghost use Rattle.std.specs.Prelude.{◌≡◌, true};
 
-use message::Refusal;
+use message::{Refusal, SiteFault};
 use notary::KeyedNotary;
 use office::{Begun, Office, Ticket, Unspent};
 use record::Operation;
@@ -15,13 +15,6 @@ pub struct Seat {
     ticket: Option<Ticket>,
     ghost paired: { holds office.figures.client office.desk.write ticket ≡ true },
 }
-
-/// What CLOSE and GIVE UP say where no ticket is out.
-const NO_TICKET: Refusal = Refusal {
-    number: 21,
-    index: 0,
-    layer: 3,
-};
 
 impl Seat {
     /// An office that goes on after the number of its last write.
@@ -80,12 +73,12 @@ impl Seat {
         self.office.take(message, output, board)
     }
 
-    /// CLOSE, with the ticket that is kept. Where it is refused, the ticket is kept again.
+    /// CLOSE, with the ticket that is kept; NONE where no ticket is out. Where it is refused, the ticket is kept again.
     pub fn close(&mut self) -> Result<u64, Refusal>
         ensures { Closes self.old.office.figures.f self.old.office.figures.client self.old.office.desk self.old.ticket self.new.office.desk self.new.ticket result }
     {
         let Some(ticket) = self.ticket.take() else {
-            return Err(NO_TICKET);
+            return Err(Refusal::of(SiteFault::Nothing));
         };
         match self.office.close(ticket) {
             Ok(answer) => Ok(answer),
@@ -96,12 +89,12 @@ impl Seat {
         }
     }
 
-    /// GIVE UP, with the ticket that is kept.
+    /// GIVE UP, with the ticket that is kept; NONE where no ticket is out.
     pub fn give_up(&mut self) -> Result<(), Refusal>
         ensures { GivesUp self.old.office.desk self.old.ticket self.new.office.desk self.new.ticket result }
     {
         let Some(ticket) = self.ticket.take() else {
-            return Err(NO_TICKET);
+            return Err(Refusal::of(SiteFault::Nothing));
         };
         match self.office.give_up(ticket) {
             Ok(()) => Ok(()),

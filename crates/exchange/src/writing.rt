@@ -1,6 +1,5 @@
 //! A whole write: an office asks, judges what it hears, and sends what the verdict wants, until it has the answer.
 use crate::buffers::Buffers;
-use crate::calls::verdict_name;
 use crate::rehearsal::Rehearsal;
 use crate::turn::Turn;
 use office::Verdict;
@@ -27,7 +26,7 @@ impl Rehearsal {
         let Ok(found) = office.judge(&mut buffers.output, &mut buffers.board) else {
             return Err(Trouble::NoOffice);
         };
-        writeln!(line.answer, "  verdict {}", verdict_name(&found.verdict))?;
+        writeln!(line.answer, "  verdict {}", found.verdict)?;
         Ok(Found {
             verdict: found.verdict,
             message: Vec::from_slice(line.heap, buffers.written(found.count))?,

@@ -7,16 +7,6 @@ use record::Round;
 use site::state::{Done, Settlement, Stage, State};
 use std::fmt;
 
-/// The stage's name.
-pub fn stage_name(stage: &Stage) -> &'static str {
-    match stage {
-        Stage::Open => "OPEN",
-        Stage::Frozen => "FROZEN",
-        Stage::Pulling { .. } => "PULLING",
-        Stage::Settling { .. } => "SETTLING",
-    }
-}
-
 /// A value, or the word none.
 #[derive(Clone, Copy)]
 struct OrNone<T>(Option<T>);
@@ -111,12 +101,11 @@ impl fmt::Display for StateShown<'_> {
             asked,
             settlement,
         } = self.state;
-        let name = stage_name(stage);
         let place = ledger.place;
         let current = OrNone(ledger.current.map(|current| ClaimShown(current.claim)));
         write!(
             f,
-            "state {site} stage={name} round={round} place={place} current={current}"
+            "state {site} stage={stage} round={round} place={place} current={current}"
         )?;
         let grant = OrNone(asked.out.map(|claim| ClaimShown(claim)));
         let waiting = Waiting(&asked.waiting);
