@@ -1,7 +1,7 @@
 //! Buffers that do not fit: the call is refused as SHORT, before all else, and touches nothing.
 use crate::calls::Due::{Finds, Nothing, Question, Request};
 use crate::calls::Step::{Begin, Bytes, Judge, JudgeReading, Query, Take};
-use crate::calls::{Call, Given, MARKED, Step, USED, Which, make, makes_in, only_begins, run};
+use crate::calls::{Call, Given, Step, USED, Which, make, makes_in, run};
 use crate::claims::{ANSWER, GRANT, NONCE, OURS, READ, THEIRS};
 use crate::lines::By;
 use crate::same::same_desk;
@@ -10,6 +10,7 @@ use message::Refusal;
 use office::Verdict::Certify;
 use std::process::Abort;
 use std::test::Fail;
+use tables::output::{MARKED, only_begins};
 
 const SHORT: Given = Given::Refused(Refusal {
     number: 1,

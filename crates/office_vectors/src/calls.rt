@@ -10,6 +10,7 @@ use std::alloc::Global;
 use std::fmt;
 use std::process::Abort;
 use std::test::Fail;
+use tables::output::{MARKED, only_begins};
 
 /// A call, or a look at what is filed.
 #[derive(Clone, Copy)]
@@ -94,9 +95,6 @@ pub enum Given {
     Refused(Refusal),
 }
 
-/// What the output is filled with before a call.
-pub const MARKED: u8 = 170;
-
 /// What the board is filled with before a call.
 pub const USED: u8 = 7;
 
@@ -116,11 +114,9 @@ fn judged(got: Result<Judged, Refusal>) -> Given {
 
 /// Takes each of some replies, up to the first that is refused.
 fn take_each(seat: &mut Seat, replies: &By, output: &[u8], board: &mut [u8]) -> Given {
-    for site in 0..16 {
-        if replies.0 <= site && site <= replies.1 {
-            if let Err(refusal) = seat.take(&replies.2.from_site(site), output, board) {
-                return Given::Refused(refusal);
-            }
+    for site in replies.0..=replies.1 {
+        if let Err(refusal) = seat.take(&replies.2.from_site(site), output, board) {
+            return Given::Refused(refusal);
         }
     }
     Given::Count(0)
@@ -128,17 +124,13 @@ fn take_each(seat: &mut Seat, replies: &By, output: &[u8], board: &mut [u8]) -> 
 
 /// Copies what is filed of a site to the output.
 fn look(slots: &Slots, site: u8, output: &mut [u8]) -> Given {
-    let at = usize::from(site);
-    if at >= 16 {
+    let Some(slot) = slots.at.get(usize::from(site)) else {
         return Given::Ended;
-    }
-    match &slots.at[at].filed {
+    };
+    match &slot.filed {
         Some(filed) => {
-            let bytes = filed.to_bytes();
-            for i in 0..80 {
-                if i < output.len() {
-                    output[i] = bytes[i];
-                }
+            for (to, from) in output.iter_mut().zip(&filed.to_bytes()) {
+                *to = *from;
             }
             Given::Count(80)
         }
@@ -154,8 +146,8 @@ fn take_altered(
     output: &[u8],
     board: &mut [u8],
 ) -> Given {
-    if at < 80 {
-        message[at] = byte;
+    if let Some(old) = message.get_mut(at) {
+        *old = byte;
     }
     counted(seat.take(&message, output, board))
 }
@@ -189,10 +181,8 @@ pub fn make(seat: &mut Seat, step: &Step, output: &mut [u8], board: &mut [u8]) -
 fn replies_of(heap: Global, row: &[By]) -> Result<Vec<u8>, Fail> {
     let mut bytes = Vec::new(heap);
     for replies in row {
-        for site in 0..16 {
-            if replies.0 <= site && site <= replies.1 {
-                bytes.extend_from_slice(&replies.2.from_site(site))?;
-            }
+        for site in replies.0..=replies.1 {
+            bytes.extend_from_slice(&replies.2.from_site(site))?;
         }
     }
     Ok(bytes)
@@ -228,20 +218,6 @@ fn given_of(due: &Due, count: usize) -> Given {
         }),
         _ => Given::Count(count),
     }
-}
-
-/// Whether the output begins with these bytes, and what follows is as it came.
-pub fn only_begins(output: &[u8], expected: &[u8]) -> bool {
-    if expected.len() > output.len() {
-        return false;
-    }
-    let (front, back) = output.split_at(expected.len());
-    for byte in back {
-        if *byte != MARKED {
-            return false;
-        }
-    }
-    front == expected
 }
 
 /// The board after a step: zero, but for a step that has none.

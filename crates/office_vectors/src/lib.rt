@@ -25,6 +25,4 @@ mod seat;
 #[cfg(test)]
 mod tickets;
 #[cfg(test)]
-mod trusting;
-#[cfg(test)]
 mod verdicts;

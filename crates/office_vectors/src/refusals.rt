@@ -6,9 +6,9 @@ use crate::calls::Step::{
 use crate::calls::{Call, run_fresh};
 use crate::claims::{ANSWER, GIVEN, GRANT, MARK, NONCE, OF_ANOTHER, OF_THEIRS, OURS, READ, THEIRS};
 use crate::lines::{By, Claim, Word};
-use crate::trusting::FORGED;
 use office::Verdict::{Back, Catch, Certify, Clash, Done, Wait};
 use std::test::Fail;
+use tables::trusting::FORGED;
 
 // With nothing open there is nothing to be unlike: UNVOUCHED, or else NONE.
 static NOTHING_OPEN: [Call; 16] = [

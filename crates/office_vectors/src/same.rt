@@ -20,20 +20,11 @@ fn same_question(a: &Option<Question>, b: &Option<Question>) -> bool {
 }
 
 fn same_slot(a: &Slot, b: &Slot) -> bool {
-    match (&a.filed, &b.filed) {
-        (Some(a), Some(b)) => a.to_bytes() == b.to_bytes(),
-        (None, None) => true,
-        _ => false,
-    }
+    a.filed == b.filed
 }
 
 fn same_slots(a: &Slots, b: &Slots) -> bool {
-    for i in 0..16 {
-        if !same_slot(&a.at[i], &b.at[i]) {
-            return false;
-        }
-    }
-    true
+    a.at.iter().zip(&b.at).all(|(a, b)| same_slot(a, b))
 }
 
 /// Whether two desks are the same.

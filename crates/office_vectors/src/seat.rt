@@ -2,11 +2,11 @@
 ghost use Rattle.office_vectors.specs.Pairs.{holds, number_of, same_write};
 ghost use Rattle.std.specs.Prelude.{◌≡◌, true};
 
-use crate::trusting::Trusting;
 use message::Refusal;
 use office::fitting::fitted;
 use office::{Begun, Office, Ticket, Unspent};
 use record::Operation;
+use tables::trusting::Trusting;
 
 /// An office with a notary that trusts.
 pub type Tested = Office<Trusting>;

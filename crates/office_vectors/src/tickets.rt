@@ -6,7 +6,6 @@ use crate::claims::{ANSWER, GIVEN, OURS};
 use crate::lines::{By, Claim, Word};
 use crate::same::same_desk;
 use crate::seat::Seat;
-use crate::trusting::Trusting;
 use message::Refusal;
 use office::Office;
 use office::Verdict::Done;
@@ -14,6 +13,7 @@ use office::desk::CLEAR;
 use std::alloc::Global;
 use std::process::Abort;
 use std::test::Fail;
+use tables::trusting::Trusting;
 
 const NONE: Refusal = Refusal {
     number: 21,

@@ -18,8 +18,10 @@ fn digit(c: u8) -> u8
 /// The 32 bytes that 64 hexadecimal digits name.
 fn bytes(hex: &[u8; 64]) -> [u8; 32] {
     let mut out = [0; 32];
-    for i in 0..32 {
-        out[i] = 16 * digit(hex[2 * i]) + digit(hex[2 * i + 1]);
+    for (byte, digits) in out.iter_mut().zip(hex.chunks_exact(2)) {
+        if let [high, low] = digits {
+            *byte = 16 * digit(*high) + digit(*low);
+        }
     }
     out
 }

@@ -1,5 +1,5 @@
 //! Buffers and lengths that are refused. An output or a board that does not fit is left alone.
-use crate::calls::{MARKED, Tested, fresh, only_begins};
+use crate::calls::{Tested, fresh};
 use crate::claims::{FIRST, TRANSFER};
 use crate::lines::Said::{Grant, Request};
 use crate::unchanged::same_state;
@@ -7,6 +7,7 @@ use message::Refusal;
 use site::state::FRESH;
 use std::process::Abort;
 use std::test::Fail;
+use tables::output::{MARKED, only_begins};
 
 const SHORT: Refusal = Refusal {
     number: 1,

@@ -1,6 +1,5 @@
 //! Calls of a site under test: what it is told, and what it has to reply.
 use crate::lines::Said;
-use crate::trusting::Trusting;
 use crate::unchanged::{same_state, same_titles};
 use message::Refusal;
 use object::titles::Titles;
@@ -9,6 +8,9 @@ use site::state::State;
 use std::alloc::Global;
 use std::process::Abort;
 use std::test::Fail;
+use tables::fields::Line;
+use tables::output::{MARKED, only_begins};
+use tables::trusting::Trusting;
 
 /// What has to come of a call.
 #[derive(Clone, Copy)]
@@ -38,37 +40,19 @@ pub fn at_state(state: State) -> Tested {
 
 /// The bytes of a message.
 pub fn message_of(heap: Global, records: &[Said]) -> Result<Vec<u8>, Fail> {
-    let mut bytes = Vec::new(heap);
-    for record in records {
-        bytes.extend_from_slice(&record.told())?;
-    }
-    Ok(bytes)
+    let lines: Vec<Line> = records.iter().map(|record| record.told()).collect(heap)?;
+    joined(heap, &lines)
 }
 
 /// The bytes of a reply.
 fn reply_of(heap: Global, records: &[Said]) -> Result<Vec<u8>, Fail> {
-    let mut bytes = Vec::new(heap);
-    for record in records {
-        bytes.extend_from_slice(&record.replied())?;
-    }
-    Ok(bytes)
+    let lines: Vec<Line> = records.iter().map(|record| record.replied()).collect(heap)?;
+    joined(heap, &lines)
 }
 
-/// What the output is filled with before a call.
-pub const MARKED: u8 = 170;
-
-/// Whether the output begins with these bytes, and what follows is as it came.
-pub fn only_begins(output: &[u8], expected: &[u8]) -> bool {
-    if expected.len() > output.len() {
-        return false;
-    }
-    let (front, back) = output.split_at(expected.len());
-    for byte in back {
-        if *byte != MARKED {
-            return false;
-        }
-    }
-    front == expected
+/// Records end to end.
+fn joined(heap: Global, lines: &[Line]) -> Result<Vec<u8>, Fail> {
+    Ok(Vec::from_slice(heap, lines.as_flattened())?)
 }
 
 /// The bytes that have to be written: none where the call is refused.

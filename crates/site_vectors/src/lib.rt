@@ -27,6 +27,4 @@ mod sealed;
 #[cfg(test)]
 mod take_backs;
 #[cfg(test)]
-mod trusting;
-#[cfg(test)]
 mod unchanged;

@@ -1,13 +1,14 @@
 //! A site over the keyed notary, with seals that another implementation made: tools/site_seals.py prints them.
 use crate::claims::{FIRST, TRANSFER};
+use crate::lines::Said;
 use crate::lines::Said::{Answer, Grant, Request, ShowCert};
-use crate::lines::{Line, Said};
 use notary::KeyedNotary;
 use object::titles::Titles;
 use site::site::Site;
 use std::alloc::Global;
 use std::process::Abort;
 use std::test::Fail;
+use tables::fields::Line;
 
 const REQUEST_SEAL: &[u8; 32] =
     b"\x0f\xad\x0e\x44\x0c\x02\xb5\x4c\x19\x45\x19\xe3\xfd\xcf\x2d\x4f\x15\x18\xea\x74\x0d\x97\x10\x25\x47\x94\x7f\x40\x0d\xd4\x75\x99";
@@ -25,9 +26,11 @@ const GRANT_SEAL_3: &[u8; 32] =
 fn keyed() -> Site<KeyedNotary, Titles> {
     let mut sites = [[0; 32]; 16];
     let mut clients = [[0; 32]; 16];
-    for i in 0..16u8 {
-        sites[usize::from(i)] = [16 + i; 32];
-        clients[usize::from(i)] = [32 + i; 32];
+    for (value, key) in (16..32u8).zip(sites.iter_mut()) {
+        *key = [value; 32];
+    }
+    for (value, key) in (32..48u8).zip(clients.iter_mut()) {
+        *key = [value; 32];
     }
     Site::new(1, 0, KeyedNotary::new(&sites, &clients), Titles::new())
 }

@@ -1,26 +1,6 @@
 //! Whether two states, and two objects, are the same.
-use message::Request;
 use object::titles::Titles;
-use site::state::{Asked, Backup, Current, Done, Ledger, Requests, Settlement, Stage, State};
-
-fn same_request(a: &Option<Request>, b: &Option<Request>) -> bool {
-    match (a, b) {
-        (Some(a), Some(b)) => {
-            a.client == b.client && a.number == b.number && a.operation == b.operation
-        }
-        (None, None) => true,
-        _ => false,
-    }
-}
-
-fn same_requests(a: &Requests, b: &Requests) -> bool {
-    for i in 0..16 {
-        if !same_request(&a[i], &b[i]) {
-            return false;
-        }
-    }
-    true
-}
+use site::state::{Asked, Backup, Current, Done, Ledger, Settlement, Stage, State};
 
 fn same_done(a: &Option<Done>, b: &Option<Done>) -> bool {
     match (a, b) {
@@ -31,12 +11,7 @@ fn same_done(a: &Option<Done>, b: &Option<Done>) -> bool {
 }
 
 fn same_table(a: &[Option<Done>; 16], b: &[Option<Done>; 16]) -> bool {
-    for i in 0..16 {
-        if !same_done(&a[i], &b[i]) {
-            return false;
-        }
-    }
-    true
+    a.iter().zip(b).all(|(a, b)| same_done(a, b))
 }
 
 fn same_current(a: &Option<Current>, b: &Option<Current>) -> bool {
@@ -80,7 +55,7 @@ fn same_stage(a: &Stage, b: &Stage) -> bool {
                 target: t,
                 requests: r,
             },
-        ) => left == l && target == t && same_requests(requests, r),
+        ) => left == l && target == t && requests == r,
         (Stage::Settling { last }, Stage::Settling { last: l }) => last == l,
         _ => false,
     }
@@ -88,19 +63,14 @@ fn same_stage(a: &Stage, b: &Stage) -> bool {
 
 fn same_settlement(a: &Option<Settlement>, b: &Option<Settlement>) -> bool {
     match (a, b) {
-        (Some(a), Some(b)) => a.target == b.target && same_requests(&a.requests, &b.requests),
+        (Some(a), Some(b)) => a.target == b.target && a.requests == b.requests,
         (None, None) => true,
         _ => false,
     }
 }
 
 fn same_asked(a: &Asked, b: &Asked) -> bool {
-    let out = match (&a.out, &b.out) {
-        (Some(a), Some(b)) => a == b,
-        (None, None) => true,
-        _ => false,
-    };
-    out && same_requests(&a.waiting, &b.waiting)
+    a.out == b.out && a.waiting == b.waiting
 }
 
 /// Whether two states are the same, field by field.
@@ -114,10 +84,5 @@ pub fn same_state(a: &State, b: &State) -> bool {
 
 /// Whether each title is in the same state.
 pub fn same_titles(a: &Titles, b: &Titles) -> bool {
-    for title in 0..64 {
-        if a.at(title) != b.at(title) {
-            return false;
-        }
-    }
-    true
+    (0..64).all(|title| a.at(title) == b.at(title))
 }
