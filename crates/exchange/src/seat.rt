@@ -35,6 +35,7 @@ impl Seat {
     }
 
     /// BEGIN: the ticket is kept.
+    #[tactic(auto, using(crate::proofs::Pairing::begin_refused, crate::proofs::Pairing::begun_alone, crate::proofs::Pairing::still_paired, crate::proofs::Pairing::begins_refused))]
     pub fn begin(
         &mut self,
         operation: &Operation,
@@ -49,6 +50,7 @@ impl Seat {
     }
 
     /// QUERY.
+    #[tactic(auto, using(crate::proofs::Pairing::query_leaves, crate::proofs::Pairing::still_paired))]
     pub fn query(
         &mut self,
         operation: &Operation,
@@ -62,6 +64,7 @@ impl Seat {
     }
 
     /// TAKE.
+    #[tactic(auto, using(crate::proofs::Pairing::take_leaves, crate::proofs::Pairing::still_paired))]
     pub fn take(
         &mut self,
         message: &[u8],
@@ -74,6 +77,7 @@ impl Seat {
     }
 
     /// CLOSE, with the ticket that is kept; NONE where no ticket is out. Where it is refused, the ticket is kept again.
+    #[tactic(auto, using(crate::proofs::Pairing::held_again))]
     pub fn close(&mut self) -> Result<u64, Refusal>
         ensures { Closes self.old.office.figures.f self.old.office.figures.client self.old.office.desk self.old.ticket self.new.office.desk self.new.ticket result }
     {
