@@ -82,7 +82,7 @@ impl Seat {
         ensures { Closes self.old.office.figures.f self.old.office.figures.client self.old.office.desk self.old.ticket self.new.office.desk self.new.ticket result }
     {
         let Some(ticket) = self.ticket.take() else {
-            return Err(Refusal::of(SiteFault::Nothing));
+            return Err(SiteFault::Nothing.into());
         };
         match self.office.close(ticket) {
             Ok(answer) => Ok(answer),
@@ -98,7 +98,7 @@ impl Seat {
         ensures { GivesUp self.old.office.desk self.old.ticket self.new.office.desk self.new.ticket result }
     {
         let Some(ticket) = self.ticket.take() else {
-            return Err(Refusal::of(SiteFault::Nothing));
+            return Err(SiteFault::Nothing.into());
         };
         match self.office.give_up(ticket) {
             Ok(()) => Ok(()),
