@@ -6,14 +6,14 @@ ghost use Rattle.std.specs.Prelude.{◌≡◌};
 use record::{Claim, Operation, Statement};
 
 /// A write that is open: the office's number for it, and what it asks.
-#[derive(Clone, Copy)]
+#[derive(Clone, Copy, PartialEq, Eq)]
 pub struct Write {
     pub number: u32,
     pub operation: Operation,
 }
 
 /// A question that is open: what it asks, and what tells it from the office's other questions.
-#[derive(Clone, Copy)]
+#[derive(Clone, Copy, PartialEq, Eq)]
 pub struct Question {
     pub operation: Operation,
     pub nonce: u64,

@@ -3,7 +3,7 @@ use crate::asking::{Question, Write};
 use crate::slots::{EMPTY, Slots};
 
 /// What is open, and the replies to it.
-#[derive(Clone, Copy)]
+#[derive(Clone, Copy, PartialEq, Eq)]
 pub struct Desk {
     /// the number of the last write that was begun
     pub last: u32,

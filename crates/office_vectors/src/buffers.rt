@@ -4,7 +4,6 @@ use crate::calls::Step::{Begin, Bytes, Judge, JudgeReading, Query, Take};
 use crate::calls::{Call, Given, Step, USED, Which, make, makes_in, run};
 use crate::claims::{ANSWER, GRANT, NONCE, OURS, READ, THEIRS};
 use crate::lines::By;
-use crate::same::same_desk;
 use crate::seat::Seat;
 use message::Refusal;
 use office::Verdict::Certify;
@@ -38,7 +37,7 @@ fn short_of(
     let before = *seat.office.desk();
     for step in &CALLS {
         assert_eq!(rt; make(seat, step, output, board), SHORT);
-        assert!(rt; same_desk(&before, seat.office.desk()));
+        assert!(rt; before == *seat.office.desk());
         for byte in &*board {
             assert!(rt; *byte == USED);
         }

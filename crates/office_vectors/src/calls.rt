@@ -1,6 +1,5 @@
 //! Calls of an office under test: what it is told, and what has to come of it.
 use crate::lines::{By, Word, question, request};
-use crate::same::same_desk;
 use crate::seat::Seat;
 use message::Refusal;
 use office::slots::Slots;
@@ -245,10 +244,7 @@ pub fn makes_in(
     assert_eq!(rt; given, given_of(&call.1, expected.len()), "{which}");
     assert!(rt; board == board_after(&call.0), "the board of {which}");
     if let Given::Refused(_) = given {
-        assert!(rt;
-            same_desk(&before, seat.office.desk()),
-            "the desk of {which}"
-        );
+        assert!(rt; before == *seat.office.desk(), "the desk of {which}");
     }
     assert!(rt; only_begins(output, &expected), "the output of {which}");
     Ok(())

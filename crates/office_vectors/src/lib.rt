@@ -19,7 +19,6 @@ mod readings;
 #[cfg(test)]
 mod refusals;
 #[cfg(test)]
-mod same;
 #[cfg(test)]
 mod seat;
 #[cfg(test)]

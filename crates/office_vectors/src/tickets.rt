@@ -4,7 +4,6 @@ use crate::calls::Step::{Begin, Close, Judge, Take};
 use crate::calls::{Call, run};
 use crate::claims::{ANSWER, GIVEN, OURS};
 use crate::lines::{By, Claim, Word};
-use crate::same::same_desk;
 use crate::seat::Seat;
 use message::Refusal;
 use office::Office;
@@ -35,7 +34,7 @@ fn at_an_office_with_no_write(rt: HostRuntime) -> Result<(), Fail> {
     run(&rt, rt.alloc(), &mut seat, &ANSWERED)?;
     assert_eq!(rt; seat.close_at(&mut other), Err(NONE));
     assert_eq!(rt; seat.give_up_at(&mut other), Err(NONE));
-    assert!(rt; same_desk(&CLEAR, other.desk()));
+    assert!(rt; CLEAR == *other.desk());
     run(&rt, rt.alloc(), &mut seat, &[Call(Close, Answers(GIVEN))])
 }
 

@@ -10,21 +10,21 @@ pub const CERTIFICATE: usize = 880;
 pub type Requests = [Option<Request>; 16];
 
 /// A write that was done, and what answered it.
-#[derive(Clone, Copy)]
+#[derive(Clone, Copy, PartialEq, Eq)]
 pub struct Done {
     pub claim: Claim,
     pub answer: u64,
 }
 
 /// The claim done last with its certificate, seals included; zeros follow the GRANTs. An array, since a site allocates nothing.
-#[derive(Clone, Copy)]
+#[derive(Clone, Copy, PartialEq, Eq)]
 pub struct Current {
     pub claim: Claim,
     pub certificate: [u8; CERTIFICATE],
 }
 
 /// What the write done last replaced, so that it can be taken back.
-#[derive(Clone, Copy)]
+#[derive(Clone, Copy, PartialEq, Eq)]
 pub struct Backup {
     pub current: Option<Current>,
     /// the client's last-done entry
@@ -34,7 +34,7 @@ pub struct Backup {
 }
 
 /// The writes that a site has done.
-#[derive(Clone, Copy)]
+#[derive(Clone, Copy, PartialEq, Eq)]
 pub struct Ledger {
     /// how many there are
     pub place: Place,
@@ -45,21 +45,21 @@ pub struct Ledger {
 }
 
 /// The requests that wait, and the grant that is out for one of them.
-#[derive(Clone, Copy)]
+#[derive(Clone, Copy, PartialEq, Eq)]
 pub struct Asked {
     pub out: Option<Claim>,
     pub waiting: Requests,
 }
 
 /// The claims that a round begins with: its mark one place above the target, then the requests in their clients' order.
-#[derive(Clone, Copy)]
+#[derive(Clone, Copy, PartialEq, Eq)]
 pub struct Settlement {
     pub target: Place,
     pub requests: Requests,
 }
 
 /// Where a site stands in its round.
-#[derive(Clone, Copy)]
+#[derive(Clone, Copy, PartialEq, Eq)]
 pub enum Stage {
     /// it grants and does writes
     Open,
@@ -94,7 +94,7 @@ impl fmt::Display for Stage {
 }
 
 /// All of it.
-#[derive(Clone, Copy)]
+#[derive(Clone, Copy, PartialEq, Eq)]
 pub struct State {
     pub stage: Stage,
     pub round: Round,

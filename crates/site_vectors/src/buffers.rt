@@ -2,7 +2,6 @@
 use crate::calls::{Tested, fresh};
 use crate::claims::{FIRST, TRANSFER};
 use crate::lines::Said::{Grant, Request};
-use crate::unchanged::same_state;
 use message::Refusal;
 use site::state::FRESH;
 use std::process::Abort;
@@ -35,7 +34,7 @@ fn refuses(
     };
     assert!(rt; refusal.number == due.number);
     assert!(rt; refusal.index == due.index && refusal.layer == due.layer);
-    assert!(rt; same_state(&FRESH, site.state()));
+    assert!(rt; FRESH == *site.state());
     Ok(())
 }
 

@@ -1,6 +1,6 @@
 //! Calls of a site under test: what it is told, and what it has to reply.
 use crate::lines::Said;
-use crate::unchanged::{same_state, same_titles};
+use crate::unchanged::same_titles;
 use message::Refusal;
 use object::titles::Titles;
 use site::site::Site;
@@ -77,7 +77,7 @@ fn leaves(
     let got = site.call(message, output, &mut board);
     assert!(rt; board == [0; 16], "the board of call {i}");
     if got.is_err() {
-        assert!(rt; same_state(&before, site.state()), "the state of call {i}");
+        assert!(rt; before == *site.state(), "the state of call {i}");
         assert!(rt;
             same_titles(&object, site.object()),
             "the object of call {i}"
