@@ -17,6 +17,8 @@ pub enum AnyPool {
     Slots(Pool<KeyedNotary, Slots>),
 }
 
+// Each method has a match of its own, since a pool's type names its object: one value for both would be a `dyn` that is
+// handed out, or a trait of these same methods.
 impl AnyPool {
     /// A fresh pool.
     pub fn new(
