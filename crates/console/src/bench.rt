@@ -6,7 +6,8 @@ ghost use Rattle.std.specs.Prelude.{◌≡◌, slice_set, is_some, unwrap_or};
 use object::Object;
 use record::{Operation, Statement};
 
-// The last number that each client gave a request.
+// The last number that each client gave a request. An array with a place for every number of a client, so that no call can fail; a map
+// could, for want of memory.
 #[derive(Clone, Copy)]
 struct Numbers {
     last: [u32; 256],

@@ -4,7 +4,7 @@ use std::fmt;
 /// What a site does.
 #[derive(Clone, Copy)]
 pub struct Conduct {
-    /// it can be reached
+    /// it can be reached; two facts of a site, neither of which has a value beside it
     pub is_up: bool,
     /// it does as the rules say
     pub is_honest: bool,

@@ -15,7 +15,7 @@ fn last_claim(state: &State) -> Option<Claim> {
     state.ledger.current.map(|current| current.claim)
 }
 
-/// Whether two sites have done the same writes, as far as their states tell.
+/// Whether two sites have done the same writes, as far as their states tell. No `==`: two sites of one book may be in different rounds.
 fn same_book(a: &State, b: &State) -> bool {
     a.ledger.place == b.ledger.place && last_claim(a) == last_claim(b)
 }
@@ -144,6 +144,7 @@ impl Rehearsal {
         let first = pool.state(0).ok_or(Trouble::NoPool)?;
         writeln!(line.answer, "the sites stand")?;
         let mut agree = true;
+        // a loop over the sites' numbers, each with its line: a closure could not leave by `?`
         for site in 0..self.count() {
             if let Some(state) = pool.state(site) {
                 let stage = state.stage;

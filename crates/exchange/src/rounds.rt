@@ -13,7 +13,8 @@ use text::trouble::Trouble;
 /// The most places of a settlement: the mark, and a request of each client.
 const SETTLED: u32 = 17;
 
-/// The records of one kind among replies, as far as a quorum of them.
+/// The records of one kind among replies, as far as a quorum of them. An option in a result here and below, since too few replies
+/// are no error, and memory that is lacking is one.
 fn quorum_of(
     heap: Global,
     replies: &[[u8; RECORD]],

@@ -18,6 +18,7 @@ impl Seats {
     /// No office is made yet.
     pub fn new(heap: Global) -> Result<Seats, AllocError> {
         let mut at = Vec::new(heap);
+        // so many times, with no index
         for _ in 0..CLIENTS {
             at.push(None)?;
         }

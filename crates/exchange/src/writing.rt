@@ -50,7 +50,7 @@ impl Rehearsal {
         Ok(())
     }
 
-    /// Judges, and ends the write where it has its answer; else gives what to follow.
+    /// Judges, and ends the write where it has its answer; else gives what to follow. None is no error: the write is done.
     fn judged_open(&mut self, client: u8, line: &mut Line<'_>) -> Result<Option<Found>, Trouble> {
         let found = self.judged(client, line)?;
         if let Verdict::Done { .. } = found.verdict {

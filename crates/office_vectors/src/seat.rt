@@ -47,7 +47,7 @@ impl Seat {
         }
     }
 
-    /// Whether the other seat has the same client, and a write of the same number.
+    /// Whether the other seat has the same client, and a write of the same number: the only two things that tell tickets apart.
     fn is_like(&self, other: &Seat) -> bool
         ensures { result ≡ same_write self.now.office.figures.client other.now.office.figures.client self.now.office.desk.write other.now.office.desk.write }
     {

@@ -57,7 +57,8 @@ fn byte(digits: &[u8]) -> Option<u8>
     Some(value(*high)? * 16 + value(*low)?)
 }
 
-/// The bytes that a text writes, or none where it writes no bytes.
+/// The bytes that a text writes, or none where it writes no bytes. An option in a result, since each caller has a complaint of its own
+/// for a text that writes none, and memory may be lacking too.
 pub fn from_hex(heap: Global, text: &str) -> Result<Option<Vec<u8>>, AllocError>
     ensures { IfOk result (λ o. option_map vec_items o ≡ hex_bytes text.now) }
 {
