@@ -5,7 +5,7 @@ mod methods;
 
 use crate::order::SITES;
 
-// An array and a count in the place of a vector, since a finder allocates nothing.
+// An array and a count in the place of a vector, since a finder allocates nothing and a group is copied.
 #[derive(Clone, Copy)]
 pub struct Group {
     sites: [usize; SITES],

@@ -3,7 +3,6 @@ mod Found
 mod Marking
 pub mod Groups
 pub mod HeldParts
-pub mod Requests
 mod OneKind
 pub mod FormsTold
 mod Signers

@@ -1,16 +1,15 @@
 -- What checks 2 to 4 leave known.
-use Rattle.std.proofs.Common.{◌≡◌, ℕ, ◌<◌, true, not, List, Some, None, Ok, Err, ap, ◌∙◌, arith}
-use Rattle.std.proofs.lemmas.Bool.{and_parts, leb-true, not-false, cond-true}
+use Rattle.std.proofs.Common.{◌≡◌, ℕ, ◌<◌, true, not, List, Some, None, arith}
+use Rattle.std.proofs.lemmas.Bool.{and_parts, leb-true, not-false}
 use Rattle.record.specs.Ranges.{in_range}
 use Rattle.message.proofs.FormsTold.{told}
 use Rattle.message.proofs.Found.{none_never}
 use Rattle.message.proofs.Signers.{small_in_pool, small_request, small_question, small_show_grant, small_show_cert}
-use Rattle.message.specs.Checks.{whole, first_outside, in_fields, known_form, read_form}
+use Rattle.message.specs.Checks.{whole, first_outside}
 use Rattle.message.specs.Forms.{form_of}
 use Rattle.message.specs.Laws.{HasForm}
 use Rattle.message.specs.Records.{records, statement_at}
 use Rattle.message.specs.Sizes.{SmallSigners, size, Readable}
-use Rattle.message.specs.declared.faults.MessageFault.TheVariants.{Length}
 use Rattle.message.specs.declared.form.Form.{Form}
 use Rattle.message.specs.declared.form.Form.TheVariants.{Write1, Read, Write2, Resolve, Round, ShowGrant, ShowCert}
 
@@ -41,6 +40,3 @@ pub readable : (f : ℕ) (m : List ℕ) (form : Form) → whole m ≡ true → f
 readable f m form w e ok =
     let h = told f m form e in
     record { few = leb-true _ _ (and_parts _ _ w).1; long = long f m form h; signers = signers f m (ranges f m ok) form h }
-
-pub read_ok : (f : ℕ) (m : List ℕ) (form : Form) → whole m ≡ true → form_of f m ≡ Some form → first_outside f m ≡ None → read_form f m ≡ Ok form
-read_ok f m form w e ok = cond-true (whole m) (known_form f m (form_of f m)) (Err Length) w ∙ ap (known_form f m) e ∙ ap (in_fields form) ok

@@ -23,10 +23,8 @@ impl Agreement {
         ensures { result ≡ unlike self first.now other.now }
     {
         match self {
-            Agreement::OneClaim => first.claim() != other.claim(),
-            Agreement::OneClaimIn(round) => {
-                first.claim() != other.claim() || other.round != round
-            }
+            Agreement::OneClaim => !first.claims_alike(other),
+            Agreement::OneClaimIn(round) => !first.claims_alike(other) || other.round != round,
             Agreement::OnePlace => first.round != other.round || first.place != other.place,
             Agreement::OneRound => first.round != other.round,
         }

@@ -41,8 +41,8 @@ fn target(f: u8, message: &[u8], grants: usize) -> Place
 }
 
 impl<'a> Formed<'a> {
-    #[tactic(auto, using(crate::proofs::HeldParts::small_group))]
     /// A group of the message: `n` records from index `first` on.
+    #[tactic(auto, using(crate::proofs::HeldParts::small_group))]
     fn group(&self, first: usize, n: usize) -> Group<'a>
         requires { first + n ≤ records self.now.message.now }
         ensures bytes { result.part.bytes.now ≡ group self.now.message.now first n }

@@ -3,7 +3,6 @@ mod Deciding
 mod Exactly
 pub mod Keeping
 mod Latest
-mod Leaving
 pub mod Members
 mod Passing
 pub mod Pieces

@@ -1,15 +1,9 @@
 -- Records written end to end.
-use Rattle.std.proofs.Common.{◌≡◌, ℕ, ◌+◌, ◌<◌, List, [], ◌∷◌, ◌++◌, length, get_or, take, drop, Some, sym, refl, ap, ◌∙◌, append_assoc, arith}
+use Rattle.std.proofs.Common.{◌≡◌, ℕ, ◌+◌, ◌<◌, List, [], ◌∷◌, ◌++◌, length, get_or, take, drop, sym, refl, ap, ◌∙◌, append_assoc}
 use Rattle.std.proofs.lemmas.List.{append-nil, take_more, take_at, drop_at, drop-drop}
-use Rattle.std.specs.List.{slice_get}
-use Rattle.office.specs.Judging.{lead, stated_in, records_of, bytes_in}
+use Rattle.office.specs.Judging.{records_of, bytes_in}
 use Rattle.office.specs.Slots.{slot_at}
 use Rattle.office.specs.declared.slots.Slot.{Slot}
-
--- The first of a group leads it.
-pub lead_first : (slots : List Slot) (sites : List ℕ) (site : ℕ) → Some site ≡ slice_get sites 0 → lead slots sites ≡ stated_in (slot_at slots site).filed
-lead_first slots [] site e = let z : ◌≡◌ {A = ℕ} 0 1 = cc in absurd (omega arith)
-lead_first slots (x ∷ rest) site e = let same : x ≡ site = cc in ap (λ (i : ℕ). stated_in (slot_at slots i).filed) same
 
 -- The bytes of one more site's record.
 abbrev bytes_of : List Slot → ℕ → List ℕ

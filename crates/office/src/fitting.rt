@@ -12,7 +12,7 @@ use record::limits::HIGHEST_CLIENT;
 fn fit(f: u8, client: u8) -> bool
     ensures { result ≡ fit_figures f client }
 {
-    1 <= f && f <= HIGHEST_FAULTY && client <= HIGHEST_CLIENT
+    (1..=HIGHEST_FAULTY).contains(&f) && client <= HIGHEST_CLIENT
 }
 
 /// The check call: whether the figures of an office fit.

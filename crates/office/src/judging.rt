@@ -26,23 +26,17 @@ pub(crate) struct Finding {
 fn lead(slots: &[Slot], group: &Group) -> Statement
     ensures { result ≡ lead_of slots.now (members group.now) }
 {
-    let Some(site) = group.first() else {
-        return Statement::NOTHING;
-    };
-    match filed(slots, site) {
-        Some(reply) => reply.statement,
-        None => Statement::NOTHING,
-    }
+    group
+        .first()
+        .and_then(|site| filed(slots, site))
+        .map_or(Statement::NOTHING, |reply| reply.statement)
 }
 
 /// Whether a claim is that of the open write.
 fn is_ours(client: u8, write: &Option<Write>, claim: &Claim) -> bool
     ensures { result ≡ is_ours client write.now claim.now }
 {
-    match write {
-        Some(write) => write.is_claimed(client, claim),
-        None => false,
-    }
+    write.is_some_and(|write| write.is_claimed(client, claim))
 }
 
 /// CATCH or WAIT: whether a quorum is heard.

@@ -57,7 +57,7 @@ impl Likening for OneClaim {
     ghost transitive = { λ _ a b c. claim_transitive a b c };
 
     fn likens(&self, one: &Statement, other: &Statement) -> bool {
-        one.claim() == other.claim()
+        one.claims_alike(other)
     }
 }
 

@@ -24,10 +24,7 @@ impl Ticket {
     pub(crate) fn is_for(&self, client: u8, write: &Option<Write>) -> bool
         ensures { result ≡ is_ticket_of client write.now self.now }
     {
-        match write {
-            Some(write) => self.client == client && self.number == write.number,
-            None => false,
-        }
+        write.is_some_and(|write| self.client == client && self.number == write.number)
     }
 
     /// Ends a ticket.

@@ -12,6 +12,7 @@ use tables::trusting::Trusting;
 pub type Tested = Office<Trusting>;
 
 /// An office, and the ticket of its write while one is open. The ticket is given up with the seat, so that a test may fail anywhere.
+/// Programs have a seat too, which stands on a whole pool: the tests of an office stand on the office alone.
 pub struct Seat {
     pub office: Tested,
     client: u8,

@@ -1,5 +1,5 @@
 // Claims, and likeness.
-ghost use Rattle.record.specs.Claims.{claim_of, alike};
+ghost use Rattle.record.specs.Claims.{claim_of, same_claim, alike};
 ghost use Rattle.record.specs.Kinds.{kind_number};
 ghost use Rattle.std.specs.Prelude.{◌≡◌, ◌==◌};
 
@@ -25,6 +25,13 @@ impl Statement {
             place: self.place,
             operation: self.operation,
         }
+    }
+
+    // Whether two statements make the same claim.
+    pub fn claims_alike(&self, other: &Statement) -> bool
+        ensures { result ≡ same_claim (claim_of self.now) (claim_of other.now) }
+    {
+        self.claim() == other.claim()
     }
 
     // Whether two statements are alike but for the signer: no equality, which would look at the signer too.

@@ -14,7 +14,7 @@ pub type Place = u32;
 // What a record says: all of it but the seal.
 #[derive(Clone, Copy, PartialEq, Eq, Debug)]
 pub struct Statement {
-    // byte 0; `Kind::of` says which kind it is, if any
+    // byte 0; `Kind::try_from` says which kind it is, if any
     pub kind: u8,
     // the number of the site or client that made the record
     pub signer: u8,

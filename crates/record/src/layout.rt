@@ -13,8 +13,8 @@ fn field<const N: usize>(bytes: &[u8; 80], at: usize) -> [u8; N]
     <[u8; N]>::try_from(&bytes[at..at + N]).unwrap()
 }
 
-// The four bytes that write a number, high byte first. A name of its own beside `to_be_bytes`, since crates above then have
-// these bytes in the words of this crate.
+// The four bytes that write a number, high byte first. A name of its own beside `to_be_bytes`, since `text` then has the bytes of an
+// amount in the words of this crate.
 #[tactic(auto, using(crate::proofs::Digits::written_4))]
 pub fn u32_bytes(n: u32) -> [u8; 4]
     ensures { result ≡ bytes_of_number 4 n }

@@ -2,19 +2,11 @@
 use Rattle.std.proofs.Common.{◌≡◌, ℕ, suc, ◌+◌, ◌-◌, ◌*◌, ◌%◌, ◌^◌, ◌<◌, ◌≤◌, List, [], ◌∷◌, ◌++◌, length, get_or, take, drop, set, replicate, sym, refl, ap, ◌∙◌, arith}
 use borrow.Rule.Slice.PartMut.{put_mid}
 use Rattle.std.specs.List.{flat_map}
-use Rattle.std.proofs.lemmas.List.{append-nil, append_assoc, length-append, length-take, length-drop, take_at, replicate-append-replicate, take_all, take_more, drop_all, drop-drop, drop-replicate, set_at, flat_map_more, length-replicate}
+use Rattle.std.proofs.lemmas.List.{append_assoc, length-append, length-take, length-drop, take_at, replicate-append-replicate, take_all, take_more, drop-replicate, set_at, flat_map_more, length-replicate}
 use Rattle.std.proofs.lemmas.Slice.{take-put_mid}
 use Rattle.sha256.specs.Compression.{compressed}
 use Rattle.sha256.specs.Digest.{absorbed, digest, eight_bytes, four_bytes, padding}
 use Rattle.sha256.proofs.Absorbing.{absorbed_one, absorbed_two}
-
--- bytes written from the place at on
-pub put_is
-    : (xs ys zs : List ℕ) (at : ℕ)
-    → ys ≡ zs
-    → put_mid at ((at + length zs) - at) xs ys ≡ take at xs ++ (zs ++ drop (at + length zs) xs)
-put_is xs ys zs at e =
-    let n : (at + length zs) - at ≡ length zs = omega arith in rw (e, n) (rw drop-drop refl)
 
 -- the mark behind the tail
 pub marked_is
@@ -29,20 +21,6 @@ marked_is out tail h e =
     in
     ap (λ xs. set xs (length tail) 0x80) (e ∙ ap (λ xs. tail ++ xs) zeros)
     ∙ set_at tail 0 (replicate (63 - length tail) 0) 0x80 (length tail) refl
-
--- the length in the last eight bytes
-pub length-put
-    : (out block bytes : List ℕ) (total : ℕ)
-    → length block ≡ 64
-    → bytes ≡ eight_bytes ((8 * total) % 2 ^ 64)
-    → out ≡ take 56 block ++ (bytes ++ drop (56 + length bytes) block)
-    → out ≡ take 56 block ++ eight_bytes ((8 * total) % 2 ^ 64)
-length-put out block bytes total n e put =
-    let long : length bytes ≡ 8 = ap length e in
-    let none : drop (56 + length bytes) block ≡ [] = drop_all (56 + length bytes) block (omega arith) in
-    put
-    ∙ ap (λ xs. take 56 block ++ (bytes ++ xs)) none
-    ∙ ap (λ xs. take 56 block ++ xs) (append-nil bytes ∙ e)
 
 length-still
     : (bytes four : List ℕ) (i : ℕ)

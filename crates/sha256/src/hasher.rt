@@ -27,7 +27,7 @@ pub struct Hasher {
     words: Words,
     /// Its first `total % 64` bytes are those taken in behind the last whole block.
     tail: Block,
-    /// How many bytes were taken in, modulo 2^64. A count beside the array, since callers in C keep a `Hasher` in memory of their own.
+    /// How many bytes were taken in, modulo 2^64. A count beside the array, since nothing is allocated here.
     total: u64,
 }
 

@@ -35,6 +35,10 @@ abbrev pub queued : Option Claim → Option Request → Request → ℕ → ℕ 
 queued out None r place index = room place index
 queued out (Some w) r place index = cond (same_request w r) (granting out place index) (Err (Busy index))
 
+-- What names the round that is due.
+abbrev pub in_round : ℕ → ℕ → Result (Unit {0}) SiteFault
+in_round named due = cond (nat_lt due named) (Err Ahead) (cond (nat_lt named due) (Err Stale) (Ok tt))
+
 -- A claim beside the round that is due and the place: it is done where it is of that round and of the next place.
 abbrev pub placed : ℕ → ℕ → Claim → Result (Unit {0}) SiteFault
 placed due place claim =

@@ -1,6 +1,6 @@
 //! What a site refuses, and what it answers from what it has done.
 ghost use Rattle.std.specs.Prelude.{◌≡◌, ◌<◌, OnOk};
-ghost use Rattle.site.specs.Answers.{stored as stored_for, room as room_at, granting as granting_at, queued as queued_for, placed as placed_at, taken as taken_at};
+ghost use Rattle.site.specs.Answers.{stored as stored_for, room as room_at, queued as queued_for, in_round, placed as placed_at, taken as taken_at};
 
 use crate::state::Done;
 use message::{Request, SiteFault};
@@ -66,16 +66,24 @@ pub fn queued(
     }
 }
 
+/// What names the round that is due.
+fn in_round(named: Round, due: Round) -> Result<(), SiteFault>
+    ensures { result ≡ in_round named due }
+{
+    if named > due {
+        return Err(SiteFault::Ahead);
+    }
+    if named < due {
+        return Err(SiteFault::Stale);
+    }
+    Ok(())
+}
+
 /// A claim beside the round that is due and the place.
 pub fn placed(due: Round, place: Place, claim: &Claim) -> Result<(), SiteFault>
     ensures { result ≡ placed_at due place claim.now }
 {
-    if claim.round > due {
-        return Err(SiteFault::Ahead);
-    }
-    if claim.round < due {
-        return Err(SiteFault::Stale);
-    }
+    in_round(claim.round, due)?;
     if claim.place <= place {
         return Err(SiteFault::Taken);
     }
@@ -90,12 +98,7 @@ pub fn taken(round: Round, place: Place, named: Round, target: Place) -> Result<
     ensures value { result ≡ taken_at round place named target }
     ensures low { OnOk result ((round < 2000000000) × (target < 2000000000)) }
 {
-    if named > round {
-        return Err(SiteFault::Ahead);
-    }
-    if named < round {
-        return Err(SiteFault::Stale);
-    }
+    in_round(named, round)?;
     if round >= HIGHEST_ROUND || target >= HIGHEST_ROUND {
         return Err(SiteFault::UsedUp(0));
     }

@@ -106,10 +106,10 @@ impl<O: Object> Replica<O> {
     {
         let asked = question.statement(0);
         let answer = self.object.look(&asked.operation);
-        let (round, place) = match &self.state.ledger.current {
-            Some(current) => (current.claim.round, current.claim.place),
-            None => (0, 0),
-        };
+        let (round, place) = self.state.ledger.current.map_or(
+            (0, 0),
+            |current| (current.claim.round, current.claim.place),
+        );
         Statement::read_answer(site, &asked, round, place, answer)
     }
 

@@ -63,8 +63,8 @@ pub fn pending_of(requests: &Requests, done: &[Option<Done>; 16]) -> Requests
     ensures { result ≡ all_pending requests.now done.now }
 {
     let mut out = [None; 16];
+    // `array::from_fn` in place of the loop did not prove: of a closure that it calls in turn nothing is known between the calls
     for i in 0..16 {
-        // `array::from_fn` in place of the loop did not prove: of a closure that it calls in turn nothing is known between the calls
         out[i] = still_pending(&requests[i], &done[i]);
     }
     out
