@@ -1,4 +1,4 @@
-//! What holds of the two notaries. Each function's contract is a theorem; there is nothing to run.
+//! What holds of the book notary and of the keyed one. Each function's contract is a theorem; there is nothing to run.
 ghost use Rattle.notary.specs.Laws.{BookEntries, SealedThenAccepted};
 
 /// The book notary accepts a record exactly where it is one of the book's whole records.
