@@ -53,14 +53,14 @@ enum Fault {
     WrongState,
 }
 
-impl Title {
-    // The number that a reading gives.
-    fn shown(self) -> u64
-        ensures { result ≡ shown_as self }
-    {
-        match self {
+// The number that a reading gives.
+impl From<Title> for u64 {
+    ghost from_gives = { λ title number. number ≡ shown_as title };
+
+    fn from(title: Title) -> u64 {
+        match title {
             Title::Unissued => 16,
-            Title::HeldBy(holder) => u64::from(holder),
+            Title::HeldBy(holder) => holder.into(),
             Title::Surrendered => 17,
         }
     }
@@ -206,6 +206,6 @@ impl Object for Titles {
         if code != STATE {
             return UNKNOWN_CODE;
         }
-        self.at(title).map_or(OUT_OF_REACH, Title::shown)
+        self.at(title).map_or(OUT_OF_REACH, u64::from)
     }
 }
