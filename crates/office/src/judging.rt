@@ -39,114 +39,123 @@ fn is_ours(client: u8, write: &Option<Write>, claim: &Claim) -> bool
     write.is_some_and(|write| write.is_claimed(client, claim))
 }
 
-/// CATCH or WAIT: whether a quorum is heard.
-fn heard(q: usize, slots: &[Slot]) -> Verdict
-    ensures value { result ≡ judged_heard q slots.now }
-    ensures right { ByHeard q slots.now result }
-{
-    match find(&Heard {}, slots, q) {
-        Some(_) => Verdict::Catch {
-            site: latest(slots),
-        },
-        None => Verdict::Wait,
-    }
+/// What is heard: the slots that hold the replies, and how many of them make a quorum.
+#[derive(Clone, Copy)]
+pub(crate) struct Hearing<'a> {
+    pub q: usize,
+    pub slots: &'a [Slot],
 }
 
-/// CLASH, CATCH or WAIT.
-fn clashing(q: usize, slots: &[Slot]) -> Finding
-    ensures verdict { result.verdict ≡ (by_place q slots.now (place_sites q slots.now)).verdict }
-    ensures sites { option_map members result.group ≡ (by_place q slots.now (place_sites q slots.now)).sites }
-    ensures size { Sized q (option_map members result.group) }
-    ensures right { Right-place q slots.now result.verdict (option_map members result.group) }
-{
-    match find(
-        &OfKind {
-            kind: Kind::Grant,
-            likening: OnePlace {},
-        },
-        slots,
-        q,
-    ) {
-        Some(group) => Finding {
-            verdict: Verdict::Clash,
-            group: Some(group),
-        },
-        None => Finding {
-            verdict: heard(q, slots),
-            group: None,
-        },
-    }
-}
-
-/// CERTIFY, BACK, CLASH, CATCH or WAIT.
-fn granted(q: usize, client: u8, write: &Option<Write>, slots: &[Slot]) -> Finding
-    ensures verdict { result.verdict ≡ (by_claim q client write.now slots.now (claim_sites q slots.now)).verdict }
-    ensures sites { option_map members result.group ≡ (by_claim q client write.now slots.now (claim_sites q slots.now)).sites }
-    ensures size { Sized q (option_map members result.group) }
-    ensures right { Right-claim q client write.now slots.now result.verdict (option_map members result.group) }
-{
-    let Some(group) = find(
-        &OfKind {
-            kind: Kind::Grant,
-            likening: OneClaim {},
-        },
-        slots,
-        q,
-    ) else {
-        return clashing(q, slots);
-    };
-    let verdict = if is_ours(client, write, &lead(slots, &group).claim()) {
-        Verdict::Certify
-    } else {
-        Verdict::Back
-    };
-    Finding {
-        verdict,
-        group: Some(group),
-    }
-}
-
-/// The verdict over the slots of a write: the first that applies.
-pub(crate) fn judge(q: usize, client: u8, write: &Option<Write>, slots: &[Slot]) -> Finding
-    ensures verdict { result.verdict ≡ (judged_by q client write.now slots.now).verdict }
-    ensures sites { option_map members result.group ≡ (judged_by q client write.now slots.now).sites }
-    ensures size { Sized q (option_map members result.group) }
-    ensures right { Warranted q client write.now slots.now result.verdict (option_map members result.group) }
-{
-    match find(
-        &OfKind {
-            kind: Kind::Answer,
-            likening: ButSigner {},
-        },
-        slots,
-        q,
-    ) {
-        Some(group) => Finding {
-            verdict: Verdict::Done {
-                answer: lead(slots, &group).answer,
+impl Hearing<'_> {
+    /// CATCH or WAIT: whether a quorum is heard.
+    fn heard(&self) -> Verdict
+        ensures value { result ≡ judged_heard self.now.q self.now.slots.now }
+        ensures right { ByHeard self.now.q self.now.slots.now result }
+    {
+        match find(&Heard {}, self.slots, self.q) {
+            Some(_) => Verdict::Catch {
+                site: latest(self.slots),
             },
-            group: None,
-        },
-        None => granted(q, client, write, slots),
+            None => Verdict::Wait,
+        }
     }
-}
 
-/// The verdict over the slots of a question.
-pub(crate) fn judge_reading(q: usize, slots: &[Slot]) -> Verdict
-    ensures value { result ≡ judged_reading q slots.now }
-    ensures right { ReadingWarranted q slots.now result }
-{
-    match find(
-        &OfKind {
-            kind: Kind::ReadAnswer,
-            likening: ButSigner {},
-        },
-        slots,
-        q,
-    ) {
-        Some(group) => Verdict::Done {
-            answer: lead(slots, &group).answer,
-        },
-        None => heard(q, slots),
+    /// CLASH, CATCH or WAIT.
+    fn clashing(&self) -> Finding
+        ensures verdict { result.verdict ≡ (by_place self.now.q self.now.slots.now (place_sites self.now.q self.now.slots.now)).verdict }
+        ensures sites { option_map members result.group ≡ (by_place self.now.q self.now.slots.now (place_sites self.now.q self.now.slots.now)).sites }
+        ensures size { Sized self.now.q (option_map members result.group) }
+        ensures right { Right-place self.now.q self.now.slots.now result.verdict (option_map members result.group) }
+    {
+        match find(
+            &OfKind {
+                kind: Kind::Grant,
+                likening: OnePlace {},
+            },
+            self.slots,
+            self.q,
+        ) {
+            Some(group) => Finding {
+                verdict: Verdict::Clash,
+                group: Some(group),
+            },
+            None => Finding {
+                verdict: self.heard(),
+                group: None,
+            },
+        }
+    }
+
+    /// CERTIFY, BACK, CLASH, CATCH or WAIT.
+    fn granted(&self, client: u8, write: &Option<Write>) -> Finding
+        ensures verdict { result.verdict ≡ (by_claim self.now.q client write.now self.now.slots.now (claim_sites self.now.q self.now.slots.now)).verdict }
+        ensures sites { option_map members result.group ≡ (by_claim self.now.q client write.now self.now.slots.now (claim_sites self.now.q self.now.slots.now)).sites }
+        ensures size { Sized self.now.q (option_map members result.group) }
+        ensures right { Right-claim self.now.q client write.now self.now.slots.now result.verdict (option_map members result.group) }
+    {
+        let Some(group) = find(
+            &OfKind {
+                kind: Kind::Grant,
+                likening: OneClaim {},
+            },
+            self.slots,
+            self.q,
+        ) else {
+            return self.clashing();
+        };
+        let verdict = if is_ours(client, write, &lead(self.slots, &group).claim()) {
+            Verdict::Certify
+        } else {
+            Verdict::Back
+        };
+        Finding {
+            verdict,
+            group: Some(group),
+        }
+    }
+
+    /// The verdict over the slots of a write: the first that applies.
+    pub(crate) fn judge(&self, client: u8, write: &Option<Write>) -> Finding
+        ensures verdict { result.verdict ≡ (judged_by self.now.q client write.now self.now.slots.now).verdict }
+        ensures sites { option_map members result.group ≡ (judged_by self.now.q client write.now self.now.slots.now).sites }
+        ensures size { Sized self.now.q (option_map members result.group) }
+        ensures right { Warranted self.now.q client write.now self.now.slots.now result.verdict (option_map members result.group) }
+    {
+        match find(
+            &OfKind {
+                kind: Kind::Answer,
+                likening: ButSigner {},
+            },
+            self.slots,
+            self.q,
+        ) {
+            Some(group) => Finding {
+                verdict: Verdict::Done {
+                    answer: lead(self.slots, &group).answer,
+                },
+                group: None,
+            },
+            None => self.granted(client, write),
+        }
+    }
+
+    /// The verdict over the slots of a question.
+    pub(crate) fn judge_reading(&self) -> Verdict
+        ensures value { result ≡ judged_reading self.now.q self.now.slots.now }
+        ensures right { ReadingWarranted self.now.q self.now.slots.now result }
+    {
+        match find(
+            &OfKind {
+                kind: Kind::ReadAnswer,
+                likening: ButSigner {},
+            },
+            self.slots,
+            self.q,
+        ) {
+            Some(group) => Verdict::Done {
+                answer: lead(self.slots, &group).answer,
+            },
+            None => self.heard(),
+        }
     }
 }

@@ -7,7 +7,7 @@ ghost use Rattle.std.specs.Prelude.{◌≡◌, IfOk};
 
 use crate::asking::{Question, Write};
 use crate::desk::{CLEAR, Desk};
-use crate::judging::judge;
+use crate::judging::Hearing;
 use crate::slots::EMPTY;
 use crate::ticket::Ticket;
 use crate::verdict::Verdict;
@@ -68,7 +68,11 @@ impl Desk {
         if !ticket.is_for(client, &self.write) {
             return Err(SiteFault::Nothing);
         }
-        match judge(quorum(f), client, &self.write, self.replies.view()).verdict {
+        let hearing = Hearing {
+            q: quorum(f),
+            slots: self.replies.view(),
+        };
+        match hearing.judge(client, &self.write).verdict {
             Verdict::Done { answer } => Ok(answer),
             _ => Err(SiteFault::Wait),
         }

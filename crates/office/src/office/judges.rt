@@ -7,7 +7,7 @@ ghost use Rattle.record.specs.declared.kind.Kind.TheVariants.{Answer as an_answe
 ghost use Rattle.std.specs.Prelude.{take, IfOk};
 
 use crate::buffers::ready;
-use crate::judging::{judge, judge_reading};
+use crate::judging::Hearing;
 use crate::office::Office;
 use crate::verdict::Judged;
 use crate::writing::write_group;
@@ -21,15 +21,13 @@ impl<N: Notary> Office<N> {
         ensures right { IfOk result (λ j. Warranted (quorum_of self.now.figures.f) self.now.figures.client self.now.desk.write self.now.desk.replies.at j.verdict (judge_write self.now.figures.f self.now.figures.client self.now.desk).sites) }
     {
         ready(output.len(), board)?;
-        let slots = self.desk.replies.view();
-        let found = judge(
-            quorum(self.figures.f),
-            self.figures.client,
-            &self.desk.write,
-            slots,
-        );
+        let hearing = Hearing {
+            q: quorum(self.figures.f),
+            slots: self.desk.replies.view(),
+        };
+        let found = hearing.judge(self.figures.client, &self.desk.write);
         let count = match &found.group {
-            Some(group) => write_group(slots, group, output),
+            Some(group) => write_group(hearing.slots, group, output),
             None => 0,
         };
         Ok(Judged {
@@ -58,8 +56,12 @@ impl<N: Notary> Office<N> {
         ensures right { IfOk result (λ j. ReadingWarranted (quorum_of self.now.figures.f) self.now.desk.readings.at j.verdict) }
     {
         ready(output.len(), board)?;
+        let hearing = Hearing {
+            q: quorum(self.figures.f),
+            slots: self.desk.readings.view(),
+        };
         Ok(Judged {
-            verdict: judge_reading(quorum(self.figures.f), self.desk.readings.view()),
+            verdict: hearing.judge_reading(),
             count: 0,
         })
     }

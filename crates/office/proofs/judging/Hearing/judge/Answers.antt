@@ -5,16 +5,16 @@ use Rattle.record.specs.declared.fields.Statement.{Statement}
 use Rattle.std.specs.List.{AllByRecursion as All}
 use Rattle.office.proofs.Members.{gave_lead}
 use Rattle.office.specs.Laws.{Gave}
-use Rattle.office.proofs.judging.judge.Goals as goal
+use Rattle.office.proofs.judging.Hearing.judge.Goals as goal
 
 pub returns-in-Some : goal.returns-in-Some
 returns-in-Some c =
-    let slots = c.args.slots.now in
+    let slots = c.args.self.now.slots.now in
     let sites = members c.in-Some.group in
     let best = c.in-Some.ensures.best in
     record {
       verdict = search rules;
       sites = search rules;
       size = tt;
-      right = (sites, best.0, subst (λ (s : Statement). All (Gave slots s.answer) sites) (sym c.lead.ensures) (gave_lead Answer c.args.q slots sites best.0));
+      right = (sites, best.0, subst (λ (s : Statement). All (Gave slots s.answer) sites) (sym c.lead.ensures) (gave_lead Answer c.args.self.now.q slots sites best.0));
     }
