@@ -9,48 +9,40 @@ ghost use Rattle.std.specs.Prelude.{◌≡◌};
 use crate::group::Group;
 use crate::likeness::Likeness;
 use crate::order::{SITES, preference};
-use crate::replies::together;
+use crate::replies::Replies;
 
-// The sites whose replies go together with the lead's, in this order.
-fn class<R, L: Likeness<R>>(
-    likeness: &L,
-    replies: &[R],
-    order: &[usize; SITES],
-    lead: usize,
-) -> Group
-    ensures { members result ≡ class_of (together (L.Likeness.counted likeness.now) (L.Likeness.likened likeness.now) replies.now) order.now lead }
-{
-    let mut class = Group::nobody();
-    for site in order {
-        if together(likeness, replies, lead, *site) {
-            class.add(*site);
+impl<R, L: Likeness<R>> Replies<'_, R, L> {
+    // The sites whose replies go together with the lead's, in this order.
+    fn class(&self, order: &[usize; SITES], lead: usize) -> Group
+        ensures { members result ≡ class_of (together (L.counted self.now.likeness.now) (L.likened self.now.likeness.now) self.now.replies.now) order.now lead }
+    {
+        let mut class = Group::nobody();
+        for site in order {
+            if self.together(lead, *site) {
+                class.add(*site);
+            }
         }
+        class
     }
-    class
-}
 
-// The first q of the first class, in this order, that has so many.
-fn choose<R, L: Likeness<R>>(
-    likeness: &L,
-    replies: &[R],
-    order: &[usize; SITES],
-    q: usize,
-) -> Option<Group>
-    ensures { option_map members result ≡ led_by (together (L.Likeness.counted likeness.now) (L.Likeness.likened likeness.now) replies.now) order.now q order.now }
-{
-    for lead in order {
-        let class = class(likeness, replies, order, *lead);
-        if class.has(q) {
-            return Some(class.first_of(q));
+    // The first q of the first class, in this order, that has so many.
+    fn choose(&self, order: &[usize; SITES], q: usize) -> Option<Group>
+        ensures { option_map members result ≡ led_by (together (L.counted self.now.likeness.now) (L.likened self.now.likeness.now) self.now.replies.now) order.now q order.now }
+    {
+        for lead in order {
+            let class = self.class(order, *lead);
+            if class.has(q) {
+                return Some(class.first_of(q));
+            }
         }
+        None
     }
-    None
 }
 
 // The most preferred q sites whose replies count and are alike, or none.
 pub fn find<R, L: Likeness<R>>(likeness: &L, replies: &[R], q: usize) -> Option<Group>
-    ensures found { option_map members result ≡ best_group (together (L.Likeness.counted likeness.now) (L.Likeness.likened likeness.now) replies.now) q }
-    ensures best { Best (Quorum (L.Likeness.counted likeness.now) (L.Likeness.likened likeness.now) replies.now q) (option_map members result) }
+    ensures found { option_map members result ≡ best_group (together (L.counted likeness.now) (L.likened likeness.now) replies.now) q }
+    ensures best { Best (Quorum (L.counted likeness.now) (L.likened likeness.now) replies.now q) (option_map members result) }
 {
-    choose(likeness, replies, &preference(), q)
+    Replies { likeness, replies }.choose(&preference(), q)
 }

@@ -1,6 +1,6 @@
 -- What the class has so far and what the rest of the order adds to it are the whole class.
 use Rattle.std.proofs.Common.{◌≡◌, ◌≤◌, ◌++◌, drop, filter}
-use Rattle.finder.proofs.finding.class.Given as goal
+use Rattle.finder.proofs.replies.Replies.class.Given as goal
 use Rattle.finder.specs.Members.{members}
 use Rattle.finder.specs.Replies.{together}
 
@@ -9,8 +9,8 @@ invariant-loop-site g l =
     (l.class.count ≤ l.site-index)
     × (members l.class
     ++ filter
-    (together (g.L.Likeness.counted l.likeness) (g.L.Likeness.likened l.likeness) l.replies l.lead)
+    (together (g.L.Likeness.counted l.self.likeness.now) (g.L.Likeness.likened l.self.likeness.now) l.self.replies.now l.lead)
     (drop l.site-index l.order)
     ≡ filter
-    (together (g.L.Likeness.counted l.likeness) (g.L.Likeness.likened l.likeness) l.replies l.lead)
+    (together (g.L.Likeness.counted l.self.likeness.now) (g.L.Likeness.likened l.self.likeness.now) l.self.replies.now l.lead)
     l.order)
