@@ -40,39 +40,72 @@ fn ends_in_requests(message: &[u8], i: usize) -> bool
     n - i <= MOST_REQUESTS && all_kind(Kind::Request, message, i, n - i)
 }
 
-/// A quorum of GRANTs.
-fn is_write_2(q: usize, message: &[u8]) -> bool
-    ensures { result ≡ write_2_form q message.now }
-{
-    records(message) == q && all_kind(Kind::Grant, message, 0, q)
+/// A message beside the quorum of its pool, which is eleven at most.
+#[derive(Clone, Copy)]
+struct InPool<'a> {
+    q: usize,
+    message: &'a [u8],
+    ghost few: { q ≤ 11 },
 }
 
-/// A quorum of GRANTs, and one REQUEST.
-fn is_resolve(q: usize, message: &[u8]) -> bool
-    requires { q ≤ 11 }
-    ensures { result ≡ resolve_form q message.now }
-{
-    records(message) == q + 1
-        && all_kind(Kind::Grant, message, 0, q)
-        && is_kind(Kind::Request, message, q)
-}
+impl InPool<'_> {
+    /// A quorum of GRANTs.
+    fn is_write_2(&self) -> bool
+        ensures { result ≡ write_2_form self.now.q self.now.message.now }
+    {
+        records(self.message) == self.q && all_kind(Kind::Grant, self.message, 0, self.q)
+    }
 
-/// A quorum of STARTs, and REQUESTs.
-fn is_bare_round(q: usize, message: &[u8]) -> bool
-    ensures { result ≡ bare_round_form q message.now }
-{
-    q <= records(message) && ends_in_requests(message, q) && all_kind(Kind::Start, message, 0, q)
-}
+    /// A quorum of GRANTs, and one REQUEST.
+    fn is_resolve(&self) -> bool
+        ensures { result ≡ resolve_form self.now.q self.now.message.now }
+    {
+        records(self.message) == self.q + 1
+            && all_kind(Kind::Grant, self.message, 0, self.q)
+            && is_kind(Kind::Request, self.message, self.q)
+    }
 
-/// A quorum of STARTs, a quorum of GRANTs, and REQUESTs.
-fn is_full_round(q: usize, message: &[u8]) -> bool
-    requires { q ≤ 11 }
-    ensures { result ≡ full_round_form q message.now }
-{
-    q + q <= records(message)
-        && ends_in_requests(message, q + q)
-        && all_kind(Kind::Start, message, 0, q)
-        && all_kind(Kind::Grant, message, q, q)
+    /// A quorum of STARTs, and REQUESTs.
+    fn is_bare_round(&self) -> bool
+        ensures { result ≡ bare_round_form self.now.q self.now.message.now }
+    {
+        self.q <= records(self.message)
+            && ends_in_requests(self.message, self.q)
+            && all_kind(Kind::Start, self.message, 0, self.q)
+    }
+
+    /// A quorum of STARTs, a quorum of GRANTs, and REQUESTs.
+    fn is_full_round(&self) -> bool
+        ensures { result ≡ full_round_form self.now.q self.now.message.now }
+    {
+        self.q + self.q <= records(self.message)
+            && ends_in_requests(self.message, self.q + self.q)
+            && all_kind(Kind::Start, self.message, 0, self.q)
+            && all_kind(Kind::Grant, self.message, self.q, self.q)
+    }
+
+    /// The form of a message that holds a quorum.
+    fn form(&self) -> Option<Form>
+        ensures { result ≡ quorum_form_of self.now.q self.now.message.now }
+    {
+        if self.is_write_2() {
+            Some(Form::Write2)
+        } else if self.is_resolve() {
+            Some(Form::Resolve)
+        } else if self.is_bare_round() {
+            Some(Form::Round {
+                grants: 0,
+                requests: records(self.message) - self.q,
+            })
+        } else if self.is_full_round() {
+            Some(Form::Round {
+                grants: self.q,
+                requests: records(self.message) - (self.q + self.q),
+            })
+        } else {
+            None
+        }
+    }
 }
 
 /// The form of a message of one record.
@@ -91,36 +124,16 @@ fn lone_form(message: &[u8]) -> Option<Form>
     }
 }
 
-/// The form of a message that holds a quorum.
-fn quorum_form(q: usize, message: &[u8]) -> Option<Form>
-    requires { q ≤ 11 }
-    ensures { result ≡ quorum_form_of q message.now }
-{
-    if is_write_2(q, message) {
-        Some(Form::Write2)
-    } else if is_resolve(q, message) {
-        Some(Form::Resolve)
-    } else if is_bare_round(q, message) {
-        Some(Form::Round {
-            grants: 0,
-            requests: records(message) - q,
-        })
-    } else if is_full_round(q, message) {
-        Some(Form::Round {
-            grants: q,
-            requests: records(message) - (q + q),
-        })
-    } else {
-        None
-    }
-}
-
 /// The form of a message that holds a quorum of a pool of 3f+1 sites. A pool has at most sixteen sites.
 fn pool_form(f: u8, message: &[u8]) -> Option<Form>
     ensures { result ≡ pool_form_of f message.now }
 {
     if f <= HIGHEST_FAULTY {
-        quorum_form(quorum(f), message)
+        let in_pool = InPool {
+            q: quorum(f),
+            message,
+        };
+        in_pool.form()
     } else {
         None
     }
