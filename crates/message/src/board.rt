@@ -4,6 +4,7 @@ ghost use Rattle.message.specs.Checks.{first_again};
 ghost use Rattle.message.specs.Records.{records};
 
 use crate::group::Group;
+use crate::limits::BOARD;
 use crate::records::statement_at;
 
 /// Holds the board while signers are counted, and clears it at its end, whatever the outcome.
@@ -29,8 +30,7 @@ fn clear(board: &mut [u8])
 
 /// The first record of a group whose signer has signed an earlier one of it. A signer's board byte is 1 once it has signed.
 /// The index is looped over: that is this project's form for the records of a group.
-pub(crate) fn first_again(group: &Group, board: &mut [u8]) -> Option<usize>
-    requires { length board.old ≡ 16 }
+pub(crate) fn first_again(group: &Group, board: &mut [u8; BOARD]) -> Option<usize>
     ensures value { result ≡ first_again group.now.part.bytes.now }
     ensures within { IfSome result (λ k. k < records group.now.part.bytes.now) }
 {

@@ -11,6 +11,7 @@ use crate::certificate::{agreeing, clashing, signed_once};
 use crate::faults::CertificateFault;
 use crate::form::Form;
 use crate::group::Group;
+use crate::limits::BOARD;
 use crate::part::Part;
 use crate::records::statement_at;
 use crate::rounds::{reaching, rising};
@@ -99,8 +100,7 @@ impl<'a> Formed<'a> {
     }
 
     /// TWICE, of each group of the form.
-    pub(crate) fn distinct(&self, board: &mut [u8]) -> Result<(), CertificateFault>
-        requires { length board.old ≡ 16 }
+    pub(crate) fn distinct(&self, board: &mut [u8; BOARD]) -> Result<(), CertificateFault>
         ensures { result ≡ distinct self.now.f self.now.message.now self.now.form }
     {
         let q = quorum(self.f);

@@ -9,6 +9,7 @@ use crate::agreement::Agreement;
 use crate::board::first_again;
 use crate::faults::CertificateFault;
 use crate::group::Group;
+use crate::limits::BOARD;
 use crate::part::Part;
 use crate::records::statement_at;
 
@@ -46,8 +47,7 @@ pub(crate) fn clashing(group: &Group) -> Result<(), CertificateFault>
 }
 
 /// TWICE: no signer signs two records of a group. The signers are counted on the board.
-pub(crate) fn signed_once(group: &Group, board: &mut [u8]) -> Result<(), CertificateFault>
-    requires { length board.old ≡ 16 }
+pub(crate) fn signed_once(group: &Group, board: &mut [u8; BOARD]) -> Result<(), CertificateFault>
     ensures { result ≡ refuse twice_at group.now.part.first (first_again group.now.part.bytes.now) }
 {
     group.refuse(first_again(group, board), CertificateFault::Twice)

@@ -6,6 +6,7 @@ ghost use Rattle.std.specs.Prelude.{◌≡◌, length, replicate, IfOk, if◌the
 use crate::board::Counting;
 use crate::by_form::Formed;
 use crate::faults::CertificateFault;
+use crate::limits::BOARD;
 use crate::reading::{fitting, read_form};
 use crate::said::Message;
 use notary::Notary;
@@ -15,9 +16,8 @@ fn certified<'a, N: Notary>(
     f: u8,
     notary: &N,
     message: &'a [u8],
-    board: &mut [u8],
+    board: &mut [u8; BOARD],
 ) -> Result<Message<'a>, CertificateFault>
-    requires { length board.old ≡ 16 }
     ensures value { sent_or result ≡ certified f (N.Notary.means notary.now) message.now (read_form f message.now) }
     ensures parts { IfOk result (λ held. Held f message.now held) }
 {
@@ -47,5 +47,6 @@ pub fn check<'a, N: Notary>(
 {
     fitting(room, board.len())?;
     let counting = Counting { board };
-    certified(f, notary, message, counting.board)
+    let board = <&mut [u8; BOARD]>::try_from(&mut *counting.board).unwrap();
+    certified(f, notary, message, board)
 }

@@ -9,7 +9,8 @@ use crate::slots::Slot;
 use finder::Group;
 use record::limits::RECORD;
 
-/// Writes a record from index `at` on. What stands before and after it stays.
+/// Writes a record from index `at` on. What stands before and after it stays. Not the `put` of records, blocks or replies: each of those
+/// has a buffer of another kind, and says of it what is asked there.
 pub(crate) fn put(output: &mut [u8], at: usize, bytes: &[u8; RECORD])
     requires { at + 80 ≤ length output.old }
     ensures { output.new ≡ take at output.old ++ (bytes.now ++ drop (at + 80) output.old) }

@@ -16,7 +16,7 @@ signer-is part k x s es ex = cc
 pub loop-k-init : goal.loop-k-init
 loop-k-init c =
     let part = c.args.group.now.part.bytes.now in
-    let clear : c.clear.new.board ≡ replicate 16 0 = c.clear.ensures ∙ ap (λ n. replicate n 0) c.requires in
+    let clear : c.clear.new.board ≡ replicate 16 0 = c.clear.ensures ∙ ap (λ n. replicate n 0) c.told-board in
     (at_start (test part) (records part), ap length clear, marked_none part c.clear.new.board clear)
 
 pub loop-k-preserved : goal.loop-k-preserved
