@@ -1,13 +1,15 @@
 -- Writing bytes as hexadecimal text, one byte at a time, and reading them, one pair of digits at a time.
-use Rattle.std.proofs.Common.{◌≡◌, ℕ, ◌+◌, ◌/◌, ◌%◌, ◌<◌, List, [], ◌∷◌, ◌++◌, length, get_or, drop, Some, None, Option, sym, refl, ap, ◌∙◌, append_assoc, arith, true, nat_lt}
-use Rattle.std.proofs.lemmas.List.{at_drop_more}
+use Rattle.std.proofs.Common.{◌≡◌, ℕ, ◌+◌, ◌/◌, ◌%◌, ◌<◌, List, [], ◌∷◌, ◌++◌, length, get_or, drop, Some, None, Option, sym, refl, ap, ◌∙◌, append_assoc, arith, true, nat_lt, ◌*◌, take, set, suc, zero}
+use Rattle.std.proofs.lemmas.List.{at_drop_more, length-set, take_more, take_more_set}
+use Rattle.std.proofs.lemmas.List.Elements.{All-append}
+use Rattle.std.specs.List.{All}
 use Rattle.std.proofs.lemmas.Bool.Decides.{nat_tests}
 use Rattle.std.proofs.lemmas.Bool.{cond-true}
 use Rattle.std.specs.Char.{encode_utf8}
 use Rattle.text.specs.Hex.{hex_digit, hex_text, digit_value, byte_of, pair_value, byte_before, hex_bytes}
 
 -- Every hexadecimal digit is an ASCII character.
-digit_ascii : (n : ℕ) → n < 16 → hex_digit n < 128
+pub digit_ascii : (n : ℕ) → n < 16 → hex_digit n < 128
 digit_ascii n small = grind (arith, nat_tests)
 
 -- It takes one byte.
@@ -56,3 +58,48 @@ pub one_read : (all pair rest xs : List ℕ) (byte : ℕ) (whole : Option (List 
     whole ≡ in_front (xs ++ (byte ∷ [])) (hex_bytes rest)
 one_read all pair rest xs byte whole so_far parts read =
     so_far ∙ ap (λ (t : List ℕ). in_front xs (hex_bytes t)) parts ∙ ap (in_front xs) (pair_read pair rest byte read) ∙ in_front-append xs (byte ∷ []) (hex_bytes rest)
+
+-- What bytes and then others write.
+pub text_append : (xs ys : List ℕ) → hex_text (xs ++ ys) ≡ hex_text xs ++ hex_text ys
+text_append [] ys = refl
+text_append (x ∷ xs) ys = ap (λ (t : List ℕ). hex_digit (x / 16) ∷ hex_digit (x % 16) ∷ t) (text_append xs ys)
+
+two_below : (high low k d : ℕ) → high < 128 → low < 128 → k < 2 → get_or (high ∷ low ∷ []) k d < 128
+two_below high low zero d h l within = h
+two_below high low (suc zero) d h l within = l
+two_below high low (suc (suc k)) d h l within = absurd (omega (arith, within))
+
+-- Two characters more.
+two_more : (digits : List ℕ) (i high low : ℕ) → 2 * i + 1 < length digits →
+    take (2 * (i + 1)) (set (set digits (2 * i) high) (2 * i + 1) low) ≡ take (2 * i) digits ++ (high ∷ low ∷ [])
+two_more digits i high low room =
+    let two : 2 * (i + 1) ≡ 2 * i + 1 + 1 = omega arith in
+    let long : length (set digits (2 * i) high) ≡ length digits = length-set digits (2 * i) high in
+    let first : take (2 * i + 1) (set digits (2 * i) high) ≡ take (2 * i) digits ++ (high ∷ []) = take_more_set digits (2 * i) high (omega (arith, room)) in
+    let second : take (2 * i + 1 + 1) (set (set digits (2 * i) high) (2 * i + 1) low) ≡ take (2 * i + 1) (set digits (2 * i) high) ++ (low ∷ [])
+    = take_more_set (set digits (2 * i) high) (2 * i + 1) low (omega (arith, room, long)) in
+    let flat : (take (2 * i) digits ++ (high ∷ [])) ++ (low ∷ []) ≡ take (2 * i) digits ++ (high ∷ low ∷ [])
+    = append_assoc (take (2 * i) digits) (high ∷ []) (low ∷ []) in
+    cc
+
+-- They are those of the next byte.
+pub byte_written : (digits run : List ℕ) (i high low : ℕ) → i < length run → 2 * i + 1 < length digits →
+    take (2 * i) digits ≡ hex_text (take i run) → high ≡ hex_digit (get_or run i 0 / 16) → low ≡ hex_digit (get_or run i 0 % 16) →
+    take (2 * (i + 1)) (set (set digits (2 * i) high) (2 * i + 1) low) ≡ hex_text (take (i + 1) run)
+byte_written digits run i high low within room so_far h l =
+    let both = two_more digits i high low room in
+    let more : take (i + 1) run ≡ take i run ++ (get_or run i 0 ∷ []) = take_more run i 0 within in
+    let apart : hex_text (take i run ++ (get_or run i 0 ∷ [])) ≡ hex_text (take i run) ++ (hex_digit (get_or run i 0 / 16) ∷ hex_digit (get_or run i 0 % 16) ∷ [])
+    = text_append (take i run) (get_or run i 0 ∷ []) in
+    cc
+
+-- They are ASCII.
+pub byte_ascii : (digits : List ℕ) (i high low m n : ℕ) → 2 * i + 1 < length digits → All (λ c. c < 128) (take (2 * i) digits) →
+    high ≡ hex_digit m → m < 16 → low ≡ hex_digit n → n < 16 →
+    All (λ c. c < 128) (take (2 * (i + 1)) (set (set digits (2 * i) high) (2 * i + 1) low))
+byte_ascii digits i high low m n room so_far h first l second =
+    let top : high < 128 = rw h (digit_ascii m first) in
+    let bottom : low < 128 = rw l (digit_ascii n second) in
+    let pair : All (λ c. c < 128) (high ∷ low ∷ []) = λ k d within. two_below high low k d top bottom within in
+    let whole : All (λ c. c < 128) (take (2 * i) digits ++ (high ∷ low ∷ [])) = All-append (λ c. c < 128) (take (2 * i) digits) (high ∷ low ∷ []) so_far pair in
+    rw (two_more digits i high low room) whole
