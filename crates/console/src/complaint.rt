@@ -42,14 +42,21 @@ impl fmt::Display for Complaint {
     }
 }
 
+/// The array of bytes, where they are as many as it has.
+pub(crate) fn sized<const N: usize>(
+    bytes: &[u8],
+    else_say: Complaint,
+) -> Result<[u8; N], Complaint> {
+    <[u8; N]>::try_from(bytes).ok().ok_or(else_say)
+}
+
 /// The bytes that a text writes in hexadecimal, where they are so many.
 pub(crate) fn exactly<const N: usize>(
     heap: Global,
     text: &str,
     else_say: Complaint,
 ) -> Result<[u8; N], Complaint> {
-    let bytes = from_hex(heap, text)?.ok_or(else_say)?;
-    <[u8; N]>::try_from(bytes.as_slice()).ok().ok_or(else_say)
+    sized(from_hex(heap, text)?.ok_or(else_say)?.as_slice(), else_say)
 }
 
 /// The text of what was done, or of why nothing was.

@@ -6,7 +6,8 @@ use std::alloc::Global;
 /// The notary that knows the keys of a text.
 pub fn read_keys(heap: Global, text: &str) -> Result<KeyedNotary, Complaint> {
     let mut keys: Vec<Key> = Vec::new(heap);
-    for line in text.lines() {
+    // one line more than there are keys is enough to tell that the text is no such file
+    for line in text.lines().take(2 * MEMBERS + 1) {
         keys.push(exactly(heap, line, Complaint::NoKeys)?)?;
     }
     let Some((sites, clients)) = keys.as_slice().split_at_checked(MEMBERS) else {

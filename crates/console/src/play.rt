@@ -6,7 +6,10 @@ use text::trouble::Trouble;
 use text::words::{Kept, Unreadable};
 
 /// What plays a script.
-pub trait Play: Drop {
+pub trait Play: Drop + Sized {
+    /// With nothing played yet.
+    fn fresh(heap: Global) -> Result<Self, AllocError>;
+
     /// Does what a line asks for, whose first word is given, and adds the text that answers it.
     fn command(&mut self, word: &str, line: &mut Line<'_>) -> Result<(), Trouble>;
 }
@@ -50,6 +53,10 @@ impl Player {
 }
 
 impl Play for Player {
+    fn fresh(_heap: Global) -> Result<Player, AllocError> {
+        Ok(Player::new())
+    }
+
     fn command(&mut self, word: &str, line: &mut Line<'_>) -> Result<(), Trouble> {
         let kept = Kept::named(word).ok_or(Unreadable::NoStep)?;
         self.singles.command(kept, line)

@@ -56,8 +56,9 @@ impl Command {
 }
 
 /// Plays each line as it comes.
-fn play<P: Play, R: Read + Drop>(rt: &HostRuntime, mut player: P, input: R) -> anyhow::Result<()> {
+fn play<P: Play, R: Read + Drop>(rt: &HostRuntime, input: R) -> anyhow::Result<()> {
     let heap = rt.alloc();
+    let mut player = P::fresh(heap)?;
     let lines = BufReader::new(heap, input)?.lines(heap);
     for (number, line) in (1..=u64::MAX).zip(lines) {
         rt.print(answer(&mut player, heap, number, line?.as_str())?)?;
@@ -66,7 +67,8 @@ fn play<P: Play, R: Read + Drop>(rt: &HostRuntime, mut player: P, input: R) -> a
 }
 
 /// Plays the built-in story. Its comments are printed too.
-fn story_played<P: Play>(heap: Global, mut player: P, story: &str) -> Result<String, AllocError> {
+fn story_played<P: Play>(heap: Global, story: &str) -> Result<String, AllocError> {
+    let mut player = P::fresh(heap)?;
     let mut out = String::new(heap);
     for (number, line) in (1..=u64::MAX).zip(story.lines()) {
         if line.starts_with('#') {
@@ -102,15 +104,15 @@ fn explain_input(rt: &HostRuntime) -> anyhow::Result<()> {
     Ok(())
 }
 
-/// Does what the arguments ask for, with what plays lines, the built-in story and the help of a program.
-pub fn run<P: Play>(rt: &HostRuntime, player: P, story: &str, usage: &str) -> anyhow::Result<()> {
+/// Does what the arguments ask for, with the built-in story and the help of a program. What plays lines is made where lines are played.
+pub fn run<P: Play>(rt: &HostRuntime, story: &str, usage: &str) -> anyhow::Result<()> {
     let mut args = env::args(rt)?;
     let _ = args.next();
     let heap = rt.alloc();
     match Command::read(args) {
-        Command::Story => rt.print(story_played(heap, player, story)?)?,
-        Command::Play(None) => play(rt, player, rt.stdin())?,
-        Command::Play(Some(path)) => play(rt, player, File::open(rt, path.as_str())?)?,
+        Command::Story => rt.print(story_played::<P>(heap, story)?)?,
+        Command::Play(None) => play::<P, _>(rt, rt.stdin())?,
+        Command::Play(Some(path)) => play::<P, _>(rt, File::open(rt, path.as_str())?)?,
         Command::Seal { key, record } => rt.print(seal(heap, key.as_str(), record.as_str())?)?,
         Command::Vouch { key, record } => rt.print(vouch(heap, key.as_str(), record.as_str())?)?,
         Command::Explain { f, message, keys } => {

@@ -4,11 +4,11 @@ ghost use Rattle.sha256.specs.Mac.{hmac_sha_256};
 ghost use Rattle.std.specs.Prelude.{◌≡◌, [], ◌∷◌, ◌++◌, IfOk, replicate, string_bytes};
 ghost use Rattle.text.specs.Hex.{hex_text};
 
-use crate::complaint::{Complaint, exactly, told};
+use crate::complaint::{Complaint, sized, told};
 use notary::{Key, KeyedNotary, MEMBERS, Notary, seal_record};
 use sha256::Sealer;
 use std::alloc::{AllocError, Global};
-use text::hex::Hex;
+use text::hex::{Hex, from_hex};
 
 /// The record with its seal filled in under a key.
 pub fn sealed(key: &Key, bytes: &[u8; 80]) -> [u8; 80]
@@ -32,11 +32,14 @@ struct Given {
     bytes: [u8; 80],
 }
 
-/// The key and the record that two words write, in hexadecimal.
+/// The key and the record that two words write. That both are hexadecimal is looked at before how long they are.
 fn read(heap: Global, key: &str, bytes: &str) -> Result<Given, Complaint> {
-    let key = exactly(heap, key, Complaint::NoKey)?;
-    let bytes = exactly(heap, bytes, Complaint::NoRecord)?;
-    Ok(Given { key, bytes })
+    let key = from_hex(heap, key)?.ok_or(Complaint::NoKey)?;
+    let bytes = from_hex(heap, bytes)?.ok_or(Complaint::NoRecord)?;
+    Ok(Given {
+        key: sized(key.as_slice(), Complaint::NoKey)?,
+        bytes: sized(bytes.as_slice(), Complaint::NoRecord)?,
+    })
 }
 
 /// The line of the record with its seal filled in under a key.

@@ -25,6 +25,10 @@ impl Player {
 }
 
 impl Play for Player {
+    fn fresh(heap: Global) -> Result<Player, AllocError> {
+        Player::new(heap)
+    }
+
     fn command(&mut self, word: &str, line: &mut Line<'_>) -> Result<(), Trouble> {
         match Kept::named(word) {
             Some(kept) => self.singles.command(kept, line),

@@ -7,5 +7,5 @@ use console::story::STORY;
 use console::usage::USAGE;
 
 fn main(rt: HostRuntime) -> anyhow::Result<()> {
-    run(&rt, Player::new(), STORY, USAGE)
+    run::<Player>(&rt, STORY, USAGE)
 }

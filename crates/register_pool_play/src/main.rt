@@ -7,5 +7,5 @@ use pool_console::story::STORY;
 use pool_console::usage::USAGE;
 
 fn main(rt: HostRuntime) -> anyhow::Result<()> {
-    run(&rt, Player::new(rt.alloc())?, STORY, USAGE)
+    run::<Player>(&rt, STORY, USAGE)
 }

@@ -41,5 +41,8 @@ fn seals_are_judged_by_keys(rt: HostRuntime) -> Result<(), Fail> {
     assert!(rt; shown.as_str().starts_with("SHOW-CERT\n"));
     let short = explain_with_keys(rt.alloc(), "1", REQUEST, KEY)?;
     assert!(rt; short.as_str().starts_with("a key file has 32 lines"));
+    let long = KEY.repeat(rt.alloc(), 33)?;
+    let text = explain_with_keys(rt.alloc(), "1", REQUEST, long.as_str())?;
+    assert!(rt; text.as_str().starts_with("a key file has 32 lines"));
     Ok(())
 }

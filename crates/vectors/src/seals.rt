@@ -77,6 +77,11 @@ fn what_cannot_be_sealed_is_said(rt: HostRuntime) -> Result<(), Fail> {
         seal(heap, NO_SEAL, "00")?.as_str()
             == "a record is 80 bytes, written as 160 hexadecimal digits\n"
     );
+    // that both are hexadecimal is looked at before how long they are
+    assert!(rt;
+        seal(heap, "00", "0g")?.as_str()
+            == "a record is 80 bytes, written as 160 hexadecimal digits\n"
+    );
     assert!(rt;
         vouch(heap, NO_SEAL, "0g")?.as_str()
             == "a record is 80 bytes, written as 160 hexadecimal digits\n"
