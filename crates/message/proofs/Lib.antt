@@ -3,7 +3,8 @@ mod Found
 mod Marking
 pub mod Groups
 pub mod HeldParts
-mod OneKind
+pub mod Requests
+pub mod OneKind
 pub mod FormsTold
 mod Signers
 mod Read

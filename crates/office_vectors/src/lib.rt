@@ -19,7 +19,6 @@ mod readings;
 #[cfg(test)]
 mod refusals;
 #[cfg(test)]
-#[cfg(test)]
 mod seat;
 #[cfg(test)]
 mod tickets;

@@ -38,14 +38,14 @@ module _ (rs : List (Option Request)) (i round at place : ℕ) (within : i < len
       sym (cond-true (eqb at place) (Some (claim_for r round place)) (request_at (drop (i + 1) rs) round (at + 1) place) (eq-eqb at place same)) ∙ sym (looked_some r e) ∙ so_far
 
 -- The entries of a table of pending requests.
-pending_at : (rs : List (Option Request)) (ds : List (Option Done)) (k : ℕ) → get_or (all_pending rs ds) k None ≡ pending (get_or rs k None) (get_or ds k None)
+pub pending_at : (rs : List (Option Request)) (ds : List (Option Done)) (k : ℕ) → get_or (all_pending rs ds) k None ≡ pending (get_or rs k None) (get_or ds k None)
 pending_at [] ds k = refl
 pending_at (r ∷ rs) [] zero = refl
 pending_at (r ∷ rs) (d ∷ ds) zero = refl
 pending_at (r ∷ rs) [] (suc k) = pending_at rs [] k
 pending_at (r ∷ rs) (d ∷ ds) (suc k) = pending_at rs ds k
 
-pending_long : (rs : List (Option Request)) (ds : List (Option Done)) → length (all_pending rs ds) ≡ length rs
+pub pending_long : (rs : List (Option Request)) (ds : List (Option Done)) → length (all_pending rs ds) ≡ length rs
 pending_long [] ds = refl
 pending_long (r ∷ rs) [] = ap suc (pending_long rs [])
 pending_long (r ∷ rs) (d ∷ ds) = ap suc (pending_long rs ds)
