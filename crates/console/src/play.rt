@@ -6,12 +6,15 @@ use text::trouble::Trouble;
 use text::words::{Kept, Unreadable};
 
 /// What plays a script.
-pub trait Play: Drop + Sized {
-    /// With nothing played yet.
-    fn fresh(heap: Global) -> Result<Self, AllocError>;
-
+pub trait Play: Drop {
     /// Does what a line asks for, whose first word is given, and adds the text that answers it.
     fn command(&mut self, word: &str, line: &mut Line<'_>) -> Result<(), Trouble>;
+}
+
+/// What plays a script from its start.
+pub trait Fresh: Play + Sized {
+    /// With nothing played yet.
+    fn fresh(heap: Global) -> Result<Self, AllocError>;
 }
 
 /// The text that answers one line of a script, whose number in it is given. A line that asks for nothing is not
@@ -52,11 +55,13 @@ impl Player {
     }
 }
 
-impl Play for Player {
+impl Fresh for Player {
     fn fresh(_heap: Global) -> Result<Player, AllocError> {
         Ok(Player::new())
     }
+}
 
+impl Play for Player {
     fn command(&mut self, word: &str, line: &mut Line<'_>) -> Result<(), Trouble> {
         let kept = Kept::named(word).ok_or(Unreadable::NoStep)?;
         self.singles.command(kept, line)

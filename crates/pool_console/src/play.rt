@@ -1,5 +1,5 @@
 //! Plays scripts: each line is a command about a pool, or a step on an object alone.
-use console::play::Play;
+use console::play::{Fresh, Play};
 use console::single::Singles;
 use exchange::rehearsal::Rehearsal;
 use std::alloc::{AllocError, Global};
@@ -24,11 +24,13 @@ impl Player {
     }
 }
 
-impl Play for Player {
+impl Fresh for Player {
     fn fresh(heap: Global) -> Result<Player, AllocError> {
         Player::new(heap)
     }
+}
 
+impl Play for Player {
     fn command(&mut self, word: &str, line: &mut Line<'_>) -> Result<(), Trouble> {
         match Kept::named(word) {
             Some(kept) => self.singles.command(kept, line),

@@ -2,10 +2,10 @@
 #![tactic(auto)]
 
 use console::play::Player;
-use console::program::run;
+use console::program::run_fresh;
 use console::story::STORY;
 use console::usage::USAGE;
 
 fn main(rt: HostRuntime) -> anyhow::Result<()> {
-    run::<Player>(&rt, STORY, USAGE)
+    run_fresh::<Player>(&rt, STORY, USAGE)
 }

@@ -7,6 +7,8 @@ mod messages;
 #[cfg(test)]
 mod objects;
 #[cfg(test)]
+mod programs;
+#[cfg(test)]
 mod ranges;
 #[cfg(test)]
 mod records;
