@@ -1,6 +1,4 @@
 //! The program: arguments, files and standard streams, and nothing else.
-ghost use Rattle.std.specs.Prelude.{◌≡◌, Ok};
-
 use crate::explain::{explain, explain_line, explain_with_keys};
 use crate::play::{Fresh, Play, answer};
 use crate::seals::{seal, vouch};
@@ -81,7 +79,7 @@ fn story_played<P: Play>(heap: Global, player: &mut P, story: &str) -> Result<St
 }
 
 /// Where what plays lines comes from.
-trait Source: Drop + Sized {
+trait Source: Drop {
     /// Plays each line as it comes.
     fn play<R: Read + Drop>(self, rt: &HostRuntime, input: R) -> anyhow::Result<()>;
 
@@ -174,7 +172,7 @@ pub fn run<P: Play>(rt: &HostRuntime, player: P, story: &str, usage: &str) -> an
     carry_out(rt, Given(player), story, usage)
 }
 
-/// Does the same with a player that has played nothing yet. It is made where lines are played, and nowhere else.
+/// Does what `run` does with a player that has played nothing yet. It is made where lines are played, and nowhere else.
 pub fn run_fresh<P: Fresh>(rt: &HostRuntime, story: &str, usage: &str) -> anyhow::Result<()> {
     carry_out(rt, Made::<P>(PhantomData), story, usage)
 }
